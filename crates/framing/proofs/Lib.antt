@@ -1,0 +1,16 @@
+pub mod Arrives
+pub mod Fcs
+pub mod Formula
+pub mod Frame
+pub mod Good
+pub mod Heard
+mod InPlace
+pub mod Inside
+pub mod OneAnswer
+pub mod Only
+pub mod Paper
+pub mod Reader
+pub mod Run
+pub mod Stuffing
+pub mod Unstuffing
+pub mod Writes

@@ -1,0 +1,37 @@
+use Rattle.framing.proofs.Writes.{writes-short, writes-ran}
+use borrow.Author.Needs.{needs}
+use Rattle.framing.proofs.frame_writer.FrameWriter.append.Statement.{statement}
+use Rattle.framing.proofs.frame_writer.FrameWriter.append.Tie as tie
+
+short-requires : tie.Need-short-requires
+short-requires c κs = search needs
+
+returns : tie.Need-returns
+returns c = writes-short (c .before .if1 .taken) (c .short .ensures .0) (c .short .ensures .1)
+
+append-escaped-requires : tie.Need-append-escaped-requires
+append-escaped-requires c κs = search needs
+
+crc16-requires : tie.Need-crc16-requires
+crc16-requires c κs = search needs
+
+answer-requires : tie.Need-answer-requires
+answer-requires c κs = search needs
+
+same-length : tie.Need-same-length
+same-length c = search needs
+
+returns-2 : tie.Need-returns-2
+returns-2 c = writes-ran (c .before .before .before .before .before .before .if1 .left) (c .before .before .before .before .append-escaped .ensures) (c .answer .ensures .0) (rw (c .before .crc16 .ensures) at (c .answer .ensures .1))
+
+pub append-spec : {M : Type 1} → statement M
+append-spec =
+    tie.close
+    (tie.spec
+    short-requires
+    returns
+    append-escaped-requires
+    crc16-requires
+    answer-requires
+    same-length
+    returns-2)

@@ -1,0 +1,7 @@
+pub mod Rfc1662
+pub mod Refusal
+pub mod Writer
+pub mod Reader
+pub mod Heard
+pub mod Arrives
+pub mod Paper

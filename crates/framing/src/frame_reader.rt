@@ -1,0 +1,310 @@
+// The frame reader: its state by value, the buffer lent to each call.
+ghost use mathlib.Core.Path.{_≡_};
+ghost use Prim.Native.Nat.{_≤_};
+ghost use lib.ListN.{length, take};
+ghost use Rattle.framing.specs.Reader.{isCrate, isComplete, freshReader, isGood, moved, marks, plainOf, escapeAfter, lenAfter, ended, held, stored, inData, step, Consumes, Receives};
+use crate::crc::crc16;
+use crate::refusal::Outcome;
+use crate::refusal::Refusal;
+
+pub enum State {
+    Start,
+    Address,
+    Data,
+    Complete,
+}
+
+// How bad frames and escapes are read: as the crate does, or as RFC 1662 says.
+pub enum Reading {
+    Crate,
+    Standard,
+}
+
+pub struct FrameReader {
+    pub state: State,
+    pub escape: bool,
+    pub len: usize,
+    pub reading: Reading,
+}
+
+pub struct Consumed {
+    pub outcome: Outcome,
+    pub count: usize,
+    pub reader: FrameReader,
+}
+
+// The packet's range in the lent buffer, if a frame is complete.
+pub enum Got {
+    Packet { from: usize, to: usize },
+    Refused(Refusal),
+    Nothing,
+}
+
+pub struct Received {
+    pub got: Got,
+    pub reader: FrameReader,
+}
+
+fn is_crate(k: Reading) -> bool
+    ensures { λ r. ⌜ r ≡ isCrate k ⌝ }
+{
+    match k {
+        Reading::Crate => true,
+        Reading::Standard => false,
+    }
+}
+
+fn is_complete(s: State) -> bool
+    ensures { λ r. ⌜ r ≡ isComplete s ⌝ }
+{
+    match s {
+        State::Start => false,
+        State::Address => false,
+        State::Data => false,
+        State::Complete => true,
+    }
+}
+
+// Whether the kept bytes are a good frame.
+fn is_good(buf: &[u8], len: usize) -> bool
+    requires { ⌜ len ≤ length (now buf) ⌝ }
+    ensures { λ r. ⌜ r ≡ isGood (take len (now (buf .entry))) ⌝ }
+{
+    if len < 3 {
+        return false;
+    }
+    if buf[0] != 0x03 {
+        return false;
+    }
+    crc16(0x00FF, &buf[..len]) == 0xF0B8
+}
+
+impl FrameReader {
+    pub fn new(reading: Reading) -> Self
+        ensures { λ r. ⌜ r ≡ freshReader reading ⌝ }
+    {
+        FrameReader {
+            state: State::Start,
+            escape: false,
+            len: 0,
+            reading,
+        }
+    }
+
+    fn to(self, s: State) -> Self
+        ensures { λ r. ⌜ r ≡ moved self s ⌝ }
+    {
+        let k = self.reading;
+        FrameReader {
+            state: s,
+            escape: self.escape,
+            len: self.len,
+            reading: k,
+        }
+    }
+
+    // Whether this byte of a frame is an escape.
+    fn marks(self, b: u8) -> bool
+        ensures { λ r. ⌜ r ≡ marks self b ⌝ }
+    {
+        if b != 0x7D {
+            return false;
+        }
+        let escape = self.escape;
+        if !escape {
+            return true;
+        }
+        let k = self.reading;
+        is_crate(k)
+    }
+
+    fn plain(self, b: u8) -> u8
+        ensures { λ r. ⌜ r ≡ plainOf self b ⌝ }
+    {
+        let escape = self.escape;
+        if escape { b ^ 0x20 } else { b }
+    }
+
+    // In crate reading a pending escape outlives a frame's end.
+    fn escape_after(self) -> bool
+        ensures { λ r. ⌜ r ≡ escapeAfter self ⌝ }
+    {
+        let k = self.reading;
+        let escape = self.escape;
+        if escape { is_crate(k) } else { false }
+    }
+
+    // In crate reading the bytes of a bad frame stay.
+    fn len_after(self) -> usize
+        ensures { λ r. ⌜ r ≡ lenAfter self ⌝ }
+    {
+        let k = self.reading;
+        let len = self.len;
+        if is_crate(k) { len } else { 0 }
+    }
+
+    // 7E inside a frame ends it.
+    fn end(self, buf: &[u8]) -> Self
+        requires { ⌜ self .len ≤ length (now buf) ⌝ }
+        ensures { λ r. ⌜ r ≡ ended self (now (buf .entry)) ⌝ }
+    {
+        let k = self.reading;
+        let len = self.len;
+        let escape = self.escape_after();
+        if is_good(buf, len) {
+            FrameReader {
+                state: State::Complete,
+                escape,
+                len,
+                reading: k,
+            }
+        } else {
+            let after = self.len_after();
+            FrameReader {
+                state: State::Address,
+                escape,
+                len: after,
+                reading: k,
+            }
+        }
+    }
+
+    fn store(self, buf: &mut [u8], b: u8) -> Self
+        ensures { λ r. ⌜ held r (now (buf .exit)) ≡ stored (held self (now (buf .entry))) b ⌝ }
+    {
+        let len = self.len;
+        let k = self.reading;
+        if len < buf.len() {
+            buf[len] = b;
+            let next = len + 1;
+            FrameReader {
+                state: State::Data,
+                escape: false,
+                len: next,
+                reading: k,
+            }
+        } else {
+            FrameReader {
+                state: State::Start,
+                escape: false,
+                len: 0,
+                reading: k,
+            }
+        }
+    }
+
+    // A byte inside a frame.
+    fn data(self, buf: &mut [u8], b: u8) -> Self
+        requires { ⌜ self .len ≤ length (now buf) ⌝ }
+        ensures { λ r. ⌜ held r (now (buf .exit)) ≡ inData (held self (now (buf .entry))) b ⌝ }
+    {
+        if b == 0x7E {
+            return self.end(buf);
+        }
+        if self.marks(b) {
+            let k = self.reading;
+            return FrameReader {
+                state: State::Data,
+                escape: true,
+                len: self.len,
+                reading: k,
+            };
+        }
+        let plain = self.plain(b);
+        self.store(buf, plain)
+    }
+
+    fn step(self, buf: &mut [u8], b: u8) -> Self
+        requires { ⌜ self .len ≤ length (now buf) ⌝ }
+        ensures { λ r. ⌜ held r (now (buf .exit)) ≡ step (held self (now (buf .entry))) b ⌝ }
+    {
+        let state = self.state;
+        match state {
+            State::Start => {
+                if b == 0x7E {
+                    self.to(State::Address)
+                } else {
+                    self.to(State::Start)
+                }
+            }
+            State::Address => {
+                if b == 0xFF {
+                    return self.to(State::Data);
+                }
+                if b == 0x7E {
+                    self.to(State::Address)
+                } else {
+                    self.to(State::Start)
+                }
+            }
+            State::Data => self.data(buf, b),
+            State::Complete => self,
+        }
+    }
+
+    // Feeds bytes, up to the end of a good frame: what is not counted is to be handed in again, after `receive`.
+    pub fn consume(self, buf: &mut [u8], src: &[u8]) -> Consumed
+        ensures { λ r. ⌜ Consumes (held self (now (buf .entry))) (now (src .entry)) (r .outcome) (r .count) (r .reader) (now (buf .exit)) ⌝ }
+    {
+        let len = self.len;
+        if buf.len() < len {
+            return Consumed {
+                outcome: Outcome::Refused(Refusal::BufferShort),
+                count: 0,
+                reader: self,
+            };
+        }
+        let mut r = self;
+        let mut i = 0;
+        while i < src.len() {
+            let state = r.state;
+            if is_complete(state) {
+                return Consumed {
+                    outcome: Outcome::Done,
+                    count: i,
+                    reader: r,
+                };
+            }
+            let b = src[i];
+            r = r.step(buf, b);
+            i += 1;
+        }
+        Consumed {
+            outcome: Outcome::Done,
+            count: i,
+            reader: r,
+        }
+    }
+
+    // The packet of a good frame, once.
+    pub fn receive(self) -> Received
+        ensures { λ r. ⌜ Receives self (r .got) (r .reader) ⌝ }
+    {
+        let state = self.state;
+        if !is_complete(state) {
+            return Received {
+                got: Got::Nothing,
+                reader: self,
+            };
+        }
+        let len = self.len;
+        let k = self.reading;
+        let reader = FrameReader {
+            state: State::Address,
+            escape: self.escape,
+            len: 0,
+            reading: k,
+        };
+        if len < 3 {
+            return Received {
+                got: Got::Refused(Refusal::FrameShort),
+                reader,
+            };
+        }
+        let to = len - 2;
+        Received {
+            got: Got::Packet { from: 1, to },
+            reader,
+        }
+    }
+}

@@ -1,0 +1,236 @@
+// The frame writer: its state by value, the buffer lent to each call.
+ghost use mathlib.Core.Path.{_≡_};
+ghost use mathlib.Core.List.{[], _∷_};
+ghost use mathlib.Core.Bool.{cond};
+ghost use Prim.Native.Nat.{_/_, _%_, _≤_};
+ghost use lib.ListN.{length};
+ghost use Rattle.framing.specs.Rfc1662.{escaped, unit, fcs, checkBytes};
+ghost use Rattle.framing.specs.Refusal.{outcomeNumber};
+ghost use Rattle.framing.specs.Writer.{units, startUnits, finishUnits, Ran, freshWriter, written, Writes};
+use crate::crc::crc16;
+use crate::refusal::Outcome;
+use crate::refusal::Refusal;
+
+// The check value behind FF 03.
+pub(crate) const STARTED: u16 = 0x3DE3;
+
+pub struct FrameWriter {
+    pub len: usize,
+    pub crc: u16,
+    pub asyncmap: u32,
+}
+
+pub struct Wrote {
+    pub outcome: Outcome,
+    pub writer: FrameWriter,
+}
+
+// How far a run of units got: whether all fitted, and where the next one goes.
+pub(crate) struct Spot {
+    pub(crate) done: bool,
+    pub(crate) at: usize,
+}
+
+pub(crate) fn escapes(asyncmap: u32, b: u8) -> bool
+    ensures { λ r. ⌜ r ≡ escaped asyncmap b ⌝ }
+{
+    if b < 0x20 {
+        return (asyncmap >> (b as u32)) % 2 == 1;
+    }
+    b == 0x7D || b == 0x7E
+}
+
+// A unit of one byte.
+fn append_one(buf: &mut [u8], at: usize, a: u8) -> Spot
+    requires { ⌜ at ≤ length (now buf) ⌝ }
+    ensures { λ r. ⌜ Ran ((a ∷ []) ∷ []) (now (buf .entry)) at (now (buf .exit)) (r .at) (r .done) ⌝ }
+{
+    if buf.len() - at < 1 {
+        return Spot { done: false, at };
+    }
+    buf[at] = a;
+    Spot {
+        done: true,
+        at: at + 1,
+    }
+}
+
+// A unit of two bytes.
+fn append_two(buf: &mut [u8], at: usize, a: u8, b: u8) -> Spot
+    requires { ⌜ at ≤ length (now buf) ⌝ }
+    ensures { λ r. ⌜ Ran ((a ∷ b ∷ []) ∷ []) (now (buf .entry)) at (now (buf .exit)) (r .at) (r .done) ⌝ }
+{
+    if buf.len() - at < 2 {
+        return Spot { done: false, at };
+    }
+    buf[at] = a;
+    buf[at + 1] = b;
+    Spot {
+        done: true,
+        at: at + 2,
+    }
+}
+
+// A byte as it is sent.
+fn append_byte(buf: &mut [u8], at: usize, asyncmap: u32, b: u8) -> Spot
+    requires { ⌜ at ≤ length (now buf) ⌝ }
+    ensures { λ r. ⌜ Ran (unit asyncmap b ∷ []) (now (buf .entry)) at (now (buf .exit)) (r .at) (r .done) ⌝ }
+{
+    if escapes(asyncmap, b) {
+        return append_two(buf, at, 0x7D, b ^ 0x20);
+    }
+    append_one(buf, at, b)
+}
+
+// Bytes as they are sent, up to the first that does not fit.
+pub(crate) fn append_escaped(buf: &mut [u8], at: usize, asyncmap: u32, src: &[u8]) -> Spot
+    requires { ⌜ at ≤ length (now buf) ⌝ }
+    ensures { λ r. ⌜ Ran (units asyncmap (now (src .entry))) (now (buf .entry)) at (now (buf .exit)) (r .at) (r .done) ⌝ }
+{
+    let mut p = Spot { done: true, at };
+    let mut i = 0;
+    while i < src.len() {
+        let at = p.at;
+        p = append_byte(buf, at, asyncmap, src[i]);
+        if !p.done {
+            return p;
+        }
+        i += 1;
+    }
+    p
+}
+
+// 7E FF, and the control byte.
+pub(crate) fn start_at(buf: &mut [u8], at: usize, asyncmap: u32) -> Spot
+    requires { ⌜ at ≤ length (now buf) ⌝ }
+    ensures { λ r. ⌜ Ran (startUnits asyncmap) (now (buf .entry)) at (now (buf .exit)) (r .at) (r .done) ⌝ }
+{
+    let p = append_two(buf, at, 0x7E, 0xFF);
+    if !p.done {
+        return p;
+    }
+    let next = p.at;
+    append_byte(buf, next, asyncmap, 0x03)
+}
+
+fn low(x: u16) -> u8
+    ensures { λ r. ⌜ r ≡ x % 256 ⌝ }
+{
+    (x % 256) as u8
+}
+
+fn high(x: u16) -> u8
+    ensures { λ r. ⌜ r ≡ x / 256 ⌝ }
+{
+    (x / 256) as u8
+}
+
+// The check value, inverted, low byte first; and 7E.
+pub(crate) fn finish_at(buf: &mut [u8], at: usize, asyncmap: u32, crc: u16) -> Spot
+    requires { ⌜ at ≤ length (now buf) ⌝ }
+    ensures { λ r. ⌜ Ran (finishUnits asyncmap crc) (now (buf .entry)) at (now (buf .exit)) (r .at) (r .done) ⌝ }
+{
+    let check = check_bytes(crc);
+    let p = append_escaped(buf, at, asyncmap, &check);
+    if !p.done {
+        return p;
+    }
+    let next = p.at;
+    append_one(buf, next, 0x7E)
+}
+
+pub(crate) fn check_bytes(crc: u16) -> [u8; 2]
+    ensures { λ r. ⌜ r ≡ checkBytes crc ⌝ }
+{
+    let c = crc ^ 0xFFFF;
+    [low(c), high(c)]
+}
+
+// The answer from where a run got to; a refused run leaves the check value `full`.
+fn answer(p: Spot, full: u16, crc: u16, asyncmap: u32) -> Wrote
+    ensures { λ r. ⌜ (outcomeNumber (r .outcome) ≡ cond (p .done) 0 1) × (r .writer ≡ written (p .done) (p .at) full crc asyncmap) ⌝ }
+{
+    let len = p.at;
+    if p.done {
+        return Wrote {
+            outcome: Outcome::Done,
+            writer: FrameWriter { len, crc, asyncmap },
+        };
+    }
+    Wrote {
+        outcome: Outcome::Refused(Refusal::BufferFull),
+        writer: FrameWriter {
+            len,
+            crc: full,
+            asyncmap,
+        },
+    }
+}
+
+// The buffer is shorter than what was written to it: nothing changes.
+fn short(w: FrameWriter) -> Wrote
+    ensures { λ r. ⌜ (outcomeNumber (r .outcome) ≡ 3) × (r .writer ≡ w) ⌝ }
+{
+    Wrote {
+        outcome: Outcome::Refused(Refusal::BufferShort),
+        writer: w,
+    }
+}
+
+impl FrameWriter {
+    pub fn new() -> Self
+        ensures { λ r. ⌜ r ≡ freshWriter 0xFFFF_FFFF ⌝ }
+    {
+        FrameWriter::new_with_asyncmap(0xFFFF_FFFF)
+    }
+
+    pub fn new_with_asyncmap(asyncmap: u32) -> Self
+        ensures { λ r. ⌜ r ≡ freshWriter asyncmap ⌝ }
+    {
+        FrameWriter {
+            len: 0,
+            crc: 0,
+            asyncmap,
+        }
+    }
+
+    pub fn len(self) -> usize
+        ensures { λ r. ⌜ r ≡ self .len ⌝ }
+    {
+        self.len
+    }
+
+    pub fn start(self, buf: &mut [u8]) -> Wrote
+        ensures { λ r. ⌜ Writes (startUnits (self .asyncmap)) 0x3DE3 0x3DE3 self (now (buf .entry)) (r .outcome) (r .writer) (now (buf .exit)) ⌝ }
+    {
+        let at = self.len;
+        if buf.len() < at {
+            return short(self);
+        }
+        let p = start_at(buf, at, self.asyncmap);
+        answer(p, STARTED, STARTED, self.asyncmap)
+    }
+
+    pub fn append(self, buf: &mut [u8], src: &[u8]) -> Wrote
+        ensures { λ r. ⌜ Writes (units (self .asyncmap) (now (src .entry))) (self .crc) (fcs (self .crc) (now (src .entry))) self (now (buf .entry)) (r .outcome) (r .writer) (now (buf .exit)) ⌝ }
+    {
+        let at = self.len;
+        if buf.len() < at {
+            return short(self);
+        }
+        let p = append_escaped(buf, at, self.asyncmap, src);
+        let crc = crc16(self.crc, src);
+        answer(p, self.crc, crc, self.asyncmap)
+    }
+
+    pub fn finish(self, buf: &mut [u8]) -> Wrote
+        ensures { λ r. ⌜ Writes (finishUnits (self .asyncmap) (self .crc)) (self .crc) (self .crc) self (now (buf .entry)) (r .outcome) (r .writer) (now (buf .exit)) ⌝ }
+    {
+        let at = self.len;
+        if buf.len() < at {
+            return short(self);
+        }
+        let p = finish_at(buf, at, self.asyncmap, self.crc);
+        answer(p, self.crc, self.crc, self.asyncmap)
+    }
+}
