@@ -3,8 +3,13 @@
 use mathlib.Core.Path.{_≡_, refl}
 use mathlib.Core.Bool.{Bool, true, false, cond, _&&_, _||_, true≢false, false≢true}
 use Prim.Native.Nat.{ℕ, _≤_, _<_}
+use native.Mathlib.Omega.{arith}
 use lib.Dec.{leb}
 use borrow.Author.Tests.{leb-true, leb-false}
+
+-- where two constructors would be equal anything holds: `cc` finds this equation
+pub apart : {P : Type 0} → _≡_ {A = ℕ} 0 1 → P
+apart e = absurd (omega arith)
 
 pub by-test : {P : Type 0} (t : Bool) → (t ≡ true → P) → (t ≡ false → P) → P
 by-test true f g = f refl

@@ -1,8 +1,11 @@
+pub mod Be
 pub mod Below
 pub mod Cases
 pub mod Each
 pub mod Ends
+pub mod Lists
 pub mod Parts
 pub mod Quiet
+pub mod Same
 pub mod Stores
 pub mod Xor

@@ -1,9 +1,9 @@
--- What holds of each element of a list of numbers.
+-- What holds of each element of a list.
 use mathlib.Core.Path.{_≡_}
 use mathlib.Core.List.{List, [], _∷_}
 use Prim.Native.Nat.{ℕ, _<_}
 
-abbrev pub Each : (ℕ → Type 0) → List ℕ → Type 0
+abbrev pub Each : {A : Type 0} → (A → Type 0) → List A → Type 0
 Each P [] = Unit {0}
 Each P (b ∷ bs) = P b × Each P bs
 

@@ -1,3 +1,5 @@
+pub mod Be
 pub mod Below
 pub mod Each
 pub mod Quiet
+pub mod Same

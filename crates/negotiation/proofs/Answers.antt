@@ -1,0 +1,219 @@
+-- The options sent back are the request's (RFC 1661, 5.2 to 5.4): those whose verdict is the reply's, in order, and under an Ack all of them.
+-- Assumes nothing.
+use Prim.Native.Nat.{ℕ, _+_, _≤_, _<_}
+use mathlib.Core.Path.{_≡_, refl, ap, sym, subst, _∙_}
+use mathlib.Core.Bool.{Bool, true, false, cond, _&&_, true≢false, false≢true}
+use mathlib.Core.List.{List, [], _∷_, _++_, append-assoc, append-nil}
+use borrow.Author.Tests.{eq-eqb, ne-eqb, ltb-true, ltb-false}
+use native.Mathlib.Omega.{arith}
+use lib.Dec.{eqb, ltb, leb}
+use lib.ListN.{length}
+use Rattle.laws.specs.Same.{same}
+use Rattle.laws.proofs.Cases.{by-test, cond-by, cond-ap}
+use Rattle.negotiation.specs.declared.ipv4cp.Ipv4cpJudged.{Ipv4cpJudged}
+use Rattle.negotiation.specs.declared.lcp.LcpJudged.{LcpJudged}
+use Rattle.negotiation.specs.declared.options.Reply.{Reply}
+use Rattle.negotiation.specs.declared.proto.Proto.{Proto}
+use Rattle.negotiation.specs.declared.proto.Proto.the-variants.{Lcp, Ipv4cp}
+use Rattle.negotiation.specs.declared.proto.Verdict.{Verdict}
+use Rattle.negotiation.specs.declared.proto.Verdict.the-variants.{Ack, Nack, Rej}
+use Rattle.negotiation.specs.Rfc1661.{Option, Options, none}
+use Rattle.negotiation.specs.Refusal.{isDone}
+use Rattle.negotiation.specs.Wire.{contentOf}
+use Rattle.negotiation.specs.Options.{optBytes, sentBack, Walk, done, cut, opt, walkOf}
+use Rattle.negotiation.specs.Proto.{judgeOf, ownNacked, nacksOf}
+use Rattle.negotiation.specs.Reply.{rankOf, freshReply, suggestion, listedOf, stepOf, replyOf}
+use Rattle.negotiation.proofs.Wires.{content-pkt}
+use Rattle.negotiation.proofs.Layouts1661.{optionAs, laid-one, laid-both, walkOptions, walk-options, bytesOf, options-bytes, isWhole}
+
+-- ---- the verdict on an option, which no earlier option changes
+
+abbrev pub lcpVerdict : ℕ → List ℕ → Verdict
+lcpVerdict c d = cond (eqb c 2) (cond (eqb (length d) 4) Ack Rej) (cond (eqb c 3) (cond (same d suggestion) Ack Nack) Rej)
+
+abbrev pub ipv4cpVerdict : ℕ → List ℕ → Verdict
+ipv4cpVerdict c d = cond (eqb c 3 && eqb (length d) 4) Ack Rej
+
+abbrev pub verdictOf : Proto → ℕ → List ℕ → Verdict
+verdictOf (Lcp p) c d = lcpVerdict c d
+verdictOf (Ipv4cp p) c d = ipv4cpVerdict c d
+
+judged-verdict : (p : Proto) (c : ℕ) (d : List ℕ) → judgeOf p c d suggestion .verdict ≡ verdictOf p c d
+judged-verdict (Lcp p) c d = go (eqb c 2) (eqb (length d) 4) (eqb c 3) (same d suggestion) _ _ _ _ _
+  where
+    go : (s t u v : Bool) (a b e f g : LcpJudged) → cond s (cond t a b) (cond u (cond v e f) g) .verdict
+        ≡ cond s (cond t (a .verdict) (b .verdict)) (cond u (cond v (e .verdict) (f .verdict)) (g .verdict))
+    go true true u v a b e f g = refl
+    go true false u v a b e f g = refl
+    go false t true true a b e f g = refl
+    go false t true false a b e f g = refl
+    go false t false v a b e f g = refl
+judged-verdict (Ipv4cp p) c d = cond-ap (λ (j : Ipv4cpJudged). j .verdict) (eqb c 3 && eqb (length d) 4) _ _
+
+judged-proto : (p : Proto) (c : ℕ) (d : List ℕ) → verdictOf (judgeOf p c d suggestion .proto) ≡ verdictOf p
+judged-proto (Lcp p) c d = refl
+judged-proto (Ipv4cp p) c d = refl
+
+-- ---- the options that a reply of verdict v holds
+
+module _ (f : ℕ → List ℕ → Verdict) where
+  -- an option as it is sent back
+  abbrev pub answerTo : Option → Option
+  answerTo o = optionAs (o .type) (sentBack (f (o .type) (o .value)) (o .value) suggestion)
+
+  abbrev pub answers : Verdict → List Option → List Option
+  answers v [] = []
+  answers v (o ∷ os) = cond (eqb (rankOf (f (o .type) (o .value))) (rankOf v)) (answerTo o ∷ answers v os) (answers v os)
+
+  -- no option has a higher verdict
+  abbrev pub Top : Verdict → List Option → Type 0
+  Top v [] = Unit {0}
+  Top v (o ∷ os) = (rankOf (f (o .type) (o .value)) ≤ rankOf v) × Top v os
+
+-- what one option leaves: refused, not listed, alone, or one more; d is the value to be sent back
+data Stepped (r s : Reply) (p : Proto) (v : Verdict) (c : ℕ) (d : List ℕ) : Type 0 where
+  refused : isDone (s .outcome) ≡ false → Stepped r s p v c d
+  lower : s .proto ≡ p → rankOf v < rankOf (r .verdict) → s .verdict ≡ r .verdict → contentOf (s .packet) ≡ contentOf (r .packet)
+      → Stepped r s p v c d
+  alone : s .proto ≡ p → length d ≤ 4 → rankOf (r .verdict) < rankOf v → s .verdict ≡ v → contentOf (s .packet) ≡ optBytes c d
+      → Stepped r s p v c d
+  another : s .proto ≡ p → length d ≤ 4 → rankOf (r .verdict) ≡ rankOf v → s .verdict ≡ v
+      → contentOf (s .packet) ≡ contentOf (r .packet) ++ optBytes c d → Stepped r s p v c d
+
+stepped : (r : Reply) (p : Proto) (v : Verdict) (c : ℕ) (d : List ℕ) → Stepped r (listedOf r p v c d) p v c d
+unfolding listedOf
+stepped r p v c d =
+    let P : Reply → Type 0 = λ s. Stepped r s p v c d in
+    cond-by P (ltb (rankOf v) (rankOf (r .verdict))) (λ e. lower refl (ltb-true _ _ e) refl refl)
+    (λ e. cond-by P (ltb 4 (length d)) (λ l. refused refl)
+    (λ l. cond-by P (ltb (rankOf (r .verdict)) (rankOf v)) (λ h. alone refl (ltb-false _ _ l) (ltb-true _ _ h) refl (content-pkt _))
+    (λ h. cond-by P (leb 6 (r .count)) (λ m. refused refl)
+    (λ m. another refl (ltb-false _ _ l)
+    (omega (arith, ltb-false (rankOf v) (rankOf (r .verdict)) e, ltb-false (rankOf (r .verdict)) (rankOf v) h)) refl (content-pkt _)))))
+
+-- a list that an option may have joined
+joined-alone : (t : Bool) (a : Option) (l : List Option) → cond t (a ∷ []) [] ++ l ≡ cond t (a ∷ l) l
+joined-alone true a l = refl
+joined-alone false a l = refl
+
+joined-behind : (t : Bool) (ls : List Option) (a : Option) (l : List Option)
+    → cond t (ls ++ (a ∷ [])) [] ++ l ≡ cond t ls [] ++ cond t (a ∷ l) l
+joined-behind true ls a l = append-assoc ls (a ∷ []) l
+joined-behind false ls a l = refl
+
+-- a reply r to the options os, with a verdict v and a list ls before them
+record Answered (f : ℕ → List ℕ → Verdict) (v : Verdict) (ls os : List Option) (r : Reply) : Type 0 where
+  up : rankOf v ≤ rankOf (r .verdict)
+  top : Top f (r .verdict) os
+  laid : Options (contentOf (r .packet)) (cond (eqb (rankOf v) (rankOf (r .verdict))) ls [] ++ answers f (r .verdict) os)
+
+module _ (f : ℕ → List ℕ → Verdict) (o : Option) (os : List Option) (r s z : Reply) (p : Proto) (ls : List Option) where
+  extend : Stepped r s p (f (o .type) (o .value)) (o .type) (answerTo f o .value) → isDone (s .outcome) ≡ true
+      → Options (contentOf (r .packet)) ls
+      → ((ms : List Option) → s .proto ≡ p → Options (contentOf (s .packet)) ms → Answered f (s .verdict) ms os z)
+      → Answered f (r .verdict) ls (o ∷ os) z
+  extend (refused e) d l ih = absurd (true≢false (sym d ∙ e))
+  extend (lower q h e i) d l ih =
+      let a = ih ls q (rw i l) in
+      let k : rankOf (s .verdict) ≡ rankOf (r .verdict) = ap rankOf e in
+      let n : rankOf (f (o .type) (o .value)) ≡ rankOf (z .verdict) → ⊥ = λ y. omega (arith, a .up) in
+      record {
+        up = omega (arith, a .up);
+        top = (omega (arith, a .up), a .top);
+        laid = rw (ne-eqb _ _ n, ← k) (a .laid);
+      }
+  extend (alone q m h e i) d l ih =
+      let a = ih (answerTo f o ∷ []) q (rw i (laid-one _ _ (omega arith))) in
+      let k : rankOf (s .verdict) ≡ rankOf (f (o .type) (o .value)) = ap rankOf e in
+      let n : rankOf (r .verdict) ≡ rankOf (z .verdict) → ⊥ = λ y. omega (arith, a .up) in
+      record {
+        up = omega (arith, a .up);
+        top = (omega (arith, a .up), a .top);
+        laid = rw (ne-eqb _ _ n, ← joined-alone, ← k) (a .laid);
+      }
+  extend (another q m h e i) d l ih =
+      let a = ih (ls ++ (answerTo f o ∷ [])) q (rw i (laid-both l (laid-one _ _ (omega arith)))) in
+      let k : rankOf (s .verdict) ≡ rankOf (f (o .type) (o .value)) = ap rankOf e in
+      record {
+        up = omega (arith, a .up);
+        top = (omega (arith, a .up), a .top);
+        laid = rw (h, ← joined-behind, ← k) (a .laid);
+      }
+
+step-stepped : (r : Reply) (c : ℕ) (d : List ℕ)
+    → Stepped r (stepOf r c d) (judgeOf (r .proto) c d suggestion .proto) (verdictOf (r .proto) c d) c
+    (sentBack (verdictOf (r .proto) c d) d suggestion)
+unfolding stepOf
+step-stepped r c d = rw (← judged-verdict (r .proto) c d) (stepped r _ _ c _)
+
+answered : (os : List Option) (r : Reply) (ls : List Option) → Options (contentOf (r .packet)) ls
+    → isDone (replyOf r (walkOptions os) .outcome) ≡ true
+    → Answered (verdictOf (r .proto)) (r .verdict) ls os (replyOf r (walkOptions os))
+unfolding replyOf
+answered [] r ls l d = record { up = omega arith; top = tt; laid = rw (eq-eqb _ _ refl, append-nil) l }
+answered (o ∷ os) r ls l d =
+    let s = stepOf r (o .type) (o .value) in
+    let z = replyOf s (walkOptions os) in
+    by-test (isDone (s .outcome))
+    (λ t. rw t (extend _ o os r s z _ ls (step-stepped r (o .type) (o .value)) t l
+    (λ ms e m. subst (λ (f : ℕ → List ℕ → Verdict). Answered f (s .verdict) ms os z)
+    (ap verdictOf e ∙ judged-proto (r .proto) (o .type) (o .value)) (answered os s ms m (rw t at d)))))
+    (λ t. absurd (true≢false (sym (rw t at d) ∙ t)))
+
+-- ---- the reply to a request whose options are os
+
+no-list : (t : Bool) (l : List Option) → cond t [] [] ++ l ≡ l
+no-list true l = refl
+no-list false l = refl
+
+-- an Ack sends a value back as it came
+acked-value : (v : Verdict) (d s : List ℕ) → rankOf v ≤ 0 → sentBack v d s ≡ d
+acked-value Ack d s h = refl
+acked-value Nack d s h = absurd (omega arith)
+acked-value Rej d s h = refl
+
+acked-all : (f : ℕ → List ℕ → Verdict) (os : List Option) → Top f Ack os → answers f Ack os ≡ os
+acked-all f [] t = refl
+acked-all f (o ∷ os) t =
+    let v = f (o .type) (o .value) in
+    let e : rankOf v ≡ 0 = omega (arith, t .0) in
+    rw (eq-eqb (rankOf v) 0 e, acked-value v (o .value) suggestion (t .0), acked-all f os (t .1)) refl
+
+-- the reply to the options s from a fresh start
+abbrev pub replyTo : Proto → List ℕ → Reply
+replyTo p s = replyOf (freshReply p) (walkOf s)
+
+module _ (p : Proto) {s : List ℕ} {os : List Option} (l : Options s os) (d : isDone (replyTo p s .outcome) ≡ true) where
+  from-fresh : Answered (verdictOf p) Ack [] os (replyTo p s)
+  from-fresh =
+      let e = walk-options 0 l in
+      rw e (answered os (freshReply p) [] (rw content-pkt none) (rw e at d))
+
+  -- no option's verdict is higher than the reply's, and the reply holds those that have it
+  pub reply-top : Top (verdictOf p) (replyTo p s .verdict) os
+  reply-top = from-fresh .top
+
+  pub reply-options : Options (contentOf (replyTo p s .packet)) (answers (verdictOf p) (replyTo p s .verdict) os)
+  reply-options = rw no-list at (from-fresh .laid)
+
+  -- an Ack holds the bytes of the request
+  pub reply-ack : replyTo p s .verdict ≡ Ack → contentOf (replyTo p s .packet) ≡ s
+  reply-ack e =
+      let a : answers (verdictOf p) (replyTo p s .verdict) os ≡ os = rw e (acked-all (verdictOf p) os (rw e at reply-top)) in
+      options-bytes reply-options ∙ ap bytesOf a ∙ sym (options-bytes l)
+
+-- ---- a walk that is cut ends in a refusal
+
+pub reply-whole : (r : Reply) (w : Walk) → isDone (replyOf r w .outcome) ≡ true → isWhole w ≡ true
+unfolding replyOf
+reply-whole r done e = refl
+reply-whole r (cut at) e = absurd (false≢true e)
+reply-whole r (opt c d w) e =
+    by-test (isDone (stepOf r c d .outcome)) (λ t. reply-whole (stepOf r c d) w (rw t at e)) (λ t. absurd (true≢false (sym (rw t at e) ∙ t)))
+
+-- and nothing else refuses a Nack or a Rej
+pub nacks-whole : (rej : Bool) (p : Proto) (w : Walk) → isDone (nacksOf rej p w .outcome) ≡ isWhole w
+unfolding nacksOf
+nacks-whole rej p done = refl
+nacks-whole rej p (cut at) = refl
+nacks-whole rej p (opt c d w) = nacks-whole rej (ownNacked p c d rej) w

@@ -1,0 +1,106 @@
+-- Laws of the automaton's steps: what the callees say, put together.
+-- Assumes nothing.
+use Prim.Native.Nat.{ℕ, _+_, _<_, _≤_}
+use mathlib.Core.Path.{_≡_, refl, _∙_}
+use mathlib.Core.Bool.{true, false}
+use mathlib.Core.List.{List, [], _∷_}
+use borrow.Author.Tests.{lt-ltb, le-ltb}
+use lib.Dec.{lit<}
+use lib.ListN.{length, take, getD}
+use Rattle.negotiation.specs.declared.options.Reply.{Reply}
+use Rattle.negotiation.specs.declared.option_fsm.Handled.{Handled}
+use Rattle.negotiation.specs.declared.option_fsm.OptionFsm.{OptionFsm}
+use Rattle.negotiation.specs.declared.proto.Nacked.{Nacked}
+use Rattle.negotiation.specs.declared.refusal.Outcome.the-variants.{Done, Refused}
+use Rattle.negotiation.specs.declared.refusal.Refusal.{Refusal}
+use Rattle.negotiation.specs.declared.refusal.Refusal.the-variants.{EchoEmpty, ReplyLong}
+use Rattle.negotiation.specs.declared.states.State.{State}
+use Rattle.negotiation.specs.declared.wire.Packet.{Packet}
+use Rattle.negotiation.specs.declared.wire.Replies.{Replies}
+use Rattle.negotiation.specs.Wire.{pktOf, contentOf, packetOf, repliesOf, added}
+use Rattle.negotiation.specs.Proto.{protocolOf, ownOf}
+use Rattle.negotiation.specs.Automaton.{ackResends, afterAck, afterNack, isOpened, handled, refusedTurn, withState, nextId, requestBytes, requested, requestedIn, ackOf, replyBytes, afterReply, reqWith, afterNacked, nackWith, termAckOf, ignoredTurn, echoBytes, echoOf, actOf, lengthField, handleOf}
+use Rattle.negotiation.proofs.Wires.{content-of, add-replies}
+
+-- an own request as the code builds it
+pub request-of : {s : Replies} {i n : ℕ} {o q : Packet} (f : OptionFsm) (r : Replies) → i ≡ nextId (f .id) → n ≡ protocolOf (f .proto)
+    → o ≡ pktOf (ownOf (f .proto)) → q ≡ pktOf (packetOf n 1 i (contentOf o)) → s ≡ added r q
+    → _≡_ {A = Handled} (record { outcome = Done; echoed = false; fsm = record { id = i; state = f .state; proto = f .proto }; replies = s }) (requestedIn f r)
+request-of f r ei en eo eq es = rw (es, eq, content-of eo, en, ei) refl
+
+-- the record of replies holds the packets sent
+pub requested-behind : (f : OptionFsm) (ps : List (List ℕ)) → length ps < 3 → requestedIn f (repliesOf ps) ≡ handled (requested f ps)
+unfolding requested
+requested-behind f ps h = rw (add-replies ps (requestBytes f) h) refl
+
+-- one packet sent
+pub one-reply : {r s : Replies} {q : Packet} (l : List ℕ) → r ≡ repliesOf [] → q ≡ pktOf l → s ≡ added r q → s ≡ repliesOf (l ∷ [])
+one-reply l er eq es = es ∙ rw (er, eq) (add-replies [] l (lit< tt))
+
+module _ {g : OptionFsm} {t : State} {r : Replies} (f : OptionFsm) (et : t ≡ afterAck (f .state)) (eg : g ≡ withState f t) (er : r ≡ repliesOf []) where
+  pub ack-resent : {h : Handled} → ackResends (f .state) ≡ true → h ≡ requestedIn g r → h ≡ handled (ackOf f)
+  unfolding ackOf
+  ack-resent k e = e ∙ rw (er, requested-behind g [] (lit< tt), eg, et, k) refl
+
+  pub ack-taken : ackResends (f .state) ≡ false
+      → _≡_ {A = Handled} (record { outcome = Done; echoed = false; fsm = g; replies = r }) (handled (ackOf f))
+  unfolding ackOf
+  ack-taken k = rw (er, eg, et, k) refl
+
+pub req-refused : {why : Refusal} {h : Handled} (f : OptionFsm) (i : ℕ) (r : Reply) → r .outcome ≡ Refused why
+    → h ≡ handled (refusedTurn f why) → h ≡ handled (reqWith f i r)
+unfolding reqWith
+req-refused f i r e k = rw e k
+
+module _ {g : OptionFsm} {s : Replies} (f : OptionFsm) (i : ℕ) (r : Reply) (e : r .outcome ≡ Done) (eg : g ≡ afterReply f r) (es : s ≡ repliesOf (replyBytes i r ∷ [])) where
+  pub req-resent : {h : Handled} → isOpened (f .state) ≡ true → h ≡ requestedIn g s → h ≡ handled (reqWith f i r)
+  unfolding reqWith
+  req-resent k eh = eh ∙ rw (es, requested-behind g (replyBytes i r ∷ []) (lit< tt), eg, e, k) refl
+
+  pub req-kept : isOpened (f .state) ≡ false
+      → _≡_ {A = Handled} (record { outcome = Done; echoed = false; fsm = g; replies = s }) (handled (reqWith f i r))
+  unfolding reqWith
+  req-kept k = rw (es, eg, e, k) refl
+
+pub nack-refused : {why : Refusal} {h : Handled} (f : OptionFsm) (n : Nacked) → n .outcome ≡ Refused why
+    → h ≡ handled (refusedTurn f why) → h ≡ handled (nackWith f n)
+unfolding nackWith
+nack-refused f n e k = rw e k
+
+pub nack-sent : {t : State} {r : Replies} {h : Handled} (f : OptionFsm) (n : Nacked) → n .outcome ≡ Done → t ≡ afterNack (f .state)
+    → r ≡ repliesOf [] → h ≡ requestedIn (record { id = f .id; state = t; proto = n .proto }) r → h ≡ handled (nackWith f n)
+unfolding nackWith
+nack-sent f n e et er eh = eh ∙ rw (er, et, requested-behind (afterNacked f (n .proto)) [] (lit< tt), e) refl
+
+pub term-of : {n : ℕ} {b q : Packet} {r s : Replies} (f : OptionFsm) (i : ℕ) → n ≡ protocolOf (f .proto) → b ≡ pktOf []
+    → q ≡ pktOf (packetOf n 6 i (contentOf b)) → r ≡ repliesOf [] → s ≡ added r q
+    → _≡_ {A = Handled} (record { outcome = Done; echoed = false; fsm = f; replies = s }) (handled (termAckOf f i))
+unfolding termAckOf
+term-of f i en eb eq er es = rw (one-reply (packetOf (protocolOf (f .proto)) 6 i []) er (eq ∙ rw (content-of eb, en) refl) es) refl
+
+module _ {n : ℕ} {h : Handled} (f : OptionFsm) (p : List ℕ) (l : 6 ≤ length p) (e : n ≡ lengthField p + 2) where
+  pub handle-over : length p < n → h ≡ handled (ignoredTurn f) → h ≡ handled (handleOf f p)
+  unfolding handleOf
+  handle-over k eh = rw (le-ltb _ _ l, ← e, lt-ltb _ _ k) eh
+
+  pub handle-in : n ≤ length p → h ≡ handled (actOf f (getD p 2 0) (getD p 3 0) (take n p)) → h ≡ handled (handleOf f p)
+  unfolding handleOf
+  handle-in k eh = rw (le-ltb _ _ l, ← e, le-ltb _ _ k) eh
+
+module _ (f : OptionFsm) (p : List ℕ) where
+  pub echo-not : isOpened (f .state) ≡ false → ignoredTurn f ≡ echoOf f p
+  unfolding echoOf
+  echo-not k = rw k refl
+
+  pub echo-short : isOpened (f .state) ≡ true → length p < 3 → refusedTurn f EchoEmpty ≡ echoOf f p
+  unfolding echoOf
+  echo-short k h = rw (k, lt-ltb _ _ h) refl
+
+  pub echo-long : isOpened (f .state) ≡ true → 3 ≤ length p → 128 < length p → refusedTurn f ReplyLong ≡ echoOf f p
+  unfolding echoOf
+  echo-long k h l = rw (k, le-ltb _ _ h, lt-ltb _ _ l) refl
+
+  pub echo-sent : {s : Replies} → isOpened (f .state) ≡ true → 3 ≤ length p → length p ≤ 128 → s ≡ repliesOf (echoBytes (f .proto) p ∷ [])
+      → _≡_ {A = Handled} (record { outcome = Done; echoed = true; fsm = f; replies = s }) (handled (echoOf f p))
+  unfolding echoOf
+  echo-sent k h l es = rw (es, k, le-ltb _ _ h, le-ltb _ _ l) refl

@@ -1,0 +1,15 @@
+pub mod Refusal
+pub mod Rfc1661
+pub mod Rfc1332
+pub mod Rfc1334
+pub mod Wire
+pub mod Options
+pub mod Lcp
+pub mod Ipv4cp
+pub mod Proto
+pub mod Reply
+pub mod Automaton
+pub mod StateTable
+pub mod Pap
+pub mod Phases
+pub mod Moves

@@ -1,0 +1,319 @@
+// The automaton of option negotiation: one step for LCP and IPv4CP.
+ghost use mathlib.Core.Path.{_≡_};
+ghost use Prim.Native.Nat.{_≤_};
+ghost use lib.ListN.{length};
+ghost use Rattle.negotiation.specs.Wire.{pktOf};
+ghost use Rattle.negotiation.specs.Reply.{Ready};
+ghost use Rattle.negotiation.specs.Automaton.{handled, refusedTurn, withState, requestedIn, ackOf, codeOf, replyBytes, afterReply, reqWith, reqOf, nackWith, nackOf, termAckOf, ignoredTurn, echoBytes, echoOf, actOf, handleOf, openedFsm};
+use crate::options::Reply;
+use crate::options::answer_options;
+use crate::proto::Nacked;
+use crate::proto::Proto;
+use crate::proto::Verdict;
+use crate::proto::own_options;
+use crate::proto::own_options_nacked;
+use crate::proto::peer_options_start;
+use crate::proto::protocol;
+use crate::refusal::Outcome;
+use crate::refusal::Refusal;
+use crate::states::State;
+use crate::states::ack_resends;
+use crate::states::after_ack;
+use crate::states::after_nack;
+use crate::states::after_req;
+use crate::states::after_term;
+use crate::states::is_closed;
+use crate::states::is_opened;
+use crate::wire::CONFIGURE_ACK;
+use crate::wire::CONFIGURE_NACK;
+use crate::wire::CONFIGURE_REJ;
+use crate::wire::CONFIGURE_REQ;
+use crate::wire::DISCARD_REQ;
+use crate::wire::ECHO_REPLY;
+use crate::wire::ECHO_REQ;
+use crate::wire::Packet;
+use crate::wire::Replies;
+use crate::wire::TERMINATE_ACK;
+use crate::wire::TERMINATE_REQ;
+use crate::wire::be;
+use crate::wire::emit_packet;
+
+pub struct OptionFsm {
+    pub id: u8,
+    pub state: State,
+    pub proto: Proto,
+}
+
+// What one packet leaves. `echoed`: the packet is an echo that was answered, so its code becomes 10.
+pub struct Handled {
+    pub outcome: Outcome,
+    pub echoed: bool,
+    pub fsm: OptionFsm,
+    pub replies: Replies,
+}
+
+fn reply_code(v: Verdict) -> u8
+    ensures { λ r. ⌜ r ≡ codeOf v ⌝ }
+{
+    match v {
+        Verdict::Ack => CONFIGURE_ACK,
+        Verdict::Nack => CONFIGURE_NACK,
+        Verdict::Rej => CONFIGURE_REJ,
+    }
+}
+
+// The packet that says a reply.
+fn reply_packet(r: Reply, id: u8) -> Packet
+    requires { ⌜ Ready r ⌝ }
+    ensures { λ q. ⌜ q ≡ pktOf (replyBytes id r) ⌝ }
+{
+    let v = r.verdict;
+    let p = r.proto;
+    let b = r.packet;
+    emit_packet(protocol(p), reply_code(v), id, b)
+}
+
+// The echo of a packet that has a code.
+fn echo_packet(q: Proto, p: &[u8]) -> Packet
+    requires { ⌜ (3 ≤ length (now p)) × (length (now p) ≤ 128) ⌝ }
+    ensures { λ r. ⌜ r ≡ pktOf (echoBytes q (now (p .entry))) ⌝ }
+{
+    let code = [ECHO_REPLY];
+    Packet::blank()
+        .push2(protocol(q))
+        .push_all(&code)
+        .push_all(&p[3..])
+}
+
+impl OptionFsm {
+    fn with_state(self, s: State) -> Self
+        ensures { λ r. ⌜ r ≡ withState self s ⌝ }
+    {
+        let p = self.proto;
+        OptionFsm {
+            id: self.id,
+            state: s,
+            proto: p,
+        }
+    }
+
+    fn ignore(self) -> Handled
+        ensures { λ h. ⌜ h ≡ handled (ignoredTurn self) ⌝ }
+    {
+        Handled {
+            outcome: Outcome::Done,
+            echoed: false,
+            fsm: self,
+            replies: Replies::none(),
+        }
+    }
+
+    fn refuse(self, why: Refusal) -> Handled
+        ensures { λ h. ⌜ h ≡ handled (refusedTurn self why) ⌝ }
+    {
+        Handled {
+            outcome: Outcome::Refused(why),
+            echoed: false,
+            fsm: self,
+            replies: Replies::none(),
+        }
+    }
+
+    // An own request behind the replies of `before`, of which there is at most one.
+    fn send_configure_request(self, before: Replies) -> Handled
+        requires { ⌜ before .count ≤ 1 ⌝ }
+        ensures { λ h. ⌜ h ≡ requestedIn self before ⌝ }
+    {
+        let id = std::num::wrapping_add_u8(self.id, 1);
+        let s = self.state;
+        let p = self.proto;
+        let q = emit_packet(protocol(p), CONFIGURE_REQ, id, own_options(p));
+        Handled {
+            outcome: Outcome::Done,
+            echoed: false,
+            fsm: OptionFsm {
+                id,
+                state: s,
+                proto: p,
+            },
+            replies: before.add(q),
+        }
+    }
+
+    fn send_terminate_ack(self, id: u8) -> Handled
+        ensures { λ h. ⌜ h ≡ handled (termAckOf self id) ⌝ }
+    {
+        let p = self.proto;
+        let q = emit_packet(protocol(p), TERMINATE_ACK, id, Packet::blank());
+        Handled {
+            outcome: Outcome::Done,
+            echoed: false,
+            fsm: self,
+            replies: Replies::none().add(q),
+        }
+    }
+
+    fn send_echo_response(self, p: &[u8]) -> Handled
+        ensures { λ h. ⌜ h ≡ handled (echoOf self (now (p .entry))) ⌝ }
+    {
+        let s = self.state;
+        if !is_opened(s) {
+            return self.ignore();
+        }
+        if p.len() < 3 {
+            return self.refuse(Refusal::EchoEmpty);
+        }
+        if 128 < p.len() {
+            return self.refuse(Refusal::ReplyLong);
+        }
+        let q = self.proto;
+        Handled {
+            outcome: Outcome::Done,
+            echoed: true,
+            fsm: self,
+            replies: Replies::none().add(echo_packet(q, p)),
+        }
+    }
+
+    fn after_reply(self, r: Reply) -> Self
+        ensures { λ f. ⌜ f ≡ afterReply self r ⌝ }
+    {
+        let s = self.state;
+        let v = r.verdict;
+        let p = r.proto;
+        OptionFsm {
+            id: self.id,
+            state: after_req(s, v),
+            proto: p,
+        }
+    }
+
+    // The reply to a ConfigureReq, and an own request behind it from Opened.
+    fn reply(self, id: u8, r: Reply) -> Handled
+        requires { ⌜ Ready r ⌝ }
+        ensures { λ h. ⌜ h ≡ handled (reqWith self id r) ⌝ }
+    {
+        let o = r.outcome;
+        if let Outcome::Refused(why) = o {
+            return self.refuse(why);
+        }
+        let s = self.state;
+        let f = self.after_reply(r);
+        let replies = Replies::none().add(reply_packet(r, id));
+        if is_opened(s) {
+            return f.send_configure_request(replies);
+        }
+        Handled {
+            outcome: Outcome::Done,
+            echoed: false,
+            fsm: f,
+            replies,
+        }
+    }
+
+    fn received_configure_req(self, id: u8, p: &[u8]) -> Handled
+        ensures { λ h. ⌜ h ≡ handled (reqOf self id (now (p .entry))) ⌝ }
+    {
+        if p.len() < 6 {
+            return self.refuse(Refusal::ConfigureShort);
+        }
+        let q = self.proto;
+        self.reply(id, answer_options(peer_options_start(q), &p[6..]))
+    }
+
+    fn received_configure_ack(self) -> Handled
+        ensures { λ h. ⌜ h ≡ handled (ackOf self) ⌝ }
+    {
+        let s = self.state;
+        let f = self.with_state(after_ack(s));
+        if ack_resends(s) {
+            return f.send_configure_request(Replies::none());
+        }
+        Handled {
+            outcome: Outcome::Done,
+            echoed: false,
+            fsm: f,
+            replies: Replies::none(),
+        }
+    }
+
+    fn update(self, n: Nacked) -> Handled
+        ensures { λ h. ⌜ h ≡ handled (nackWith self n) ⌝ }
+    {
+        let o = n.outcome;
+        if let Outcome::Refused(why) = o {
+            return self.refuse(why);
+        }
+        let s = self.state;
+        let p = n.proto;
+        let f = OptionFsm {
+            id: self.id,
+            state: after_nack(s),
+            proto: p,
+        };
+        f.send_configure_request(Replies::none())
+    }
+
+    fn received_configure_nack(self, is_rej: bool, p: &[u8]) -> Handled
+        ensures { λ h. ⌜ h ≡ handled (nackOf self «is_rej» (now (p .entry))) ⌝ }
+    {
+        if p.len() < 6 {
+            return self.refuse(Refusal::ConfigureShort);
+        }
+        let q = self.proto;
+        self.update(own_options_nacked(q, &p[6..], is_rej))
+    }
+
+    // A packet, cut to its Length, by its code.
+    fn act(self, code: u8, id: u8, p: &[u8]) -> Handled
+        ensures { λ h. ⌜ h ≡ handled (actOf self code id (now (p .entry))) ⌝ }
+    {
+        let s = self.state;
+        if code == ECHO_REQ {
+            return self.send_echo_response(p);
+        }
+        if code == DISCARD_REQ {
+            return self.ignore();
+        }
+        if is_closed(s) {
+            return self.send_terminate_ack(id);
+        }
+        if code == CONFIGURE_REQ {
+            return self.received_configure_req(id, p);
+        }
+        if code == CONFIGURE_ACK {
+            return self.received_configure_ack();
+        }
+        if code == CONFIGURE_NACK {
+            return self.received_configure_nack(false, p);
+        }
+        if code == CONFIGURE_REJ {
+            return self.received_configure_nack(true, p);
+        }
+        if code == TERMINATE_REQ {
+            return self.with_state(after_term(s)).send_terminate_ack(id);
+        }
+        self.ignore()
+    }
+
+    pub(crate) fn handle(self, p: &[u8]) -> Handled
+        ensures { λ h. ⌜ h ≡ handled (handleOf self (now (p .entry))) ⌝ }
+    {
+        if p.len() < 6 {
+            return self.ignore();
+        }
+        let n = be(&p[4..6]) as usize + 2;
+        if p.len() < n {
+            return self.ignore();
+        }
+        self.act(p[2], p[3], &p[..n])
+    }
+
+    // Whatever the state was.
+    pub(crate) fn open(self) -> Handled
+        ensures { λ h. ⌜ h ≡ handled (openedFsm self) ⌝ }
+    {
+        self.with_state(State::ReqSent)
+            .send_configure_request(Replies::none())
+    }
+}
