@@ -33,12 +33,19 @@ class Dice:
         return bytes(self.below(256) for _ in range(n))
 
 
+def divided(value):
+    """A byte through RFC 1662's FCS-16, bit by bit."""
+    for _ in range(8):
+        value = (value >> 1) ^ (0x8408 if value & 1 else 0)
+    return value
+
+
+BYTES = tuple(map(divided, range(256)))
+
+
 def fcs(value, data):
-    """RFC 1662's FCS-16, bit by bit."""
     for byte in data:
-        for bit in range(8):
-            odd = (value ^ (byte >> bit)) & 1
-            value = (value >> 1) ^ (0x8408 if odd else 0)
+        value = (value >> 8) ^ BYTES[(value ^ byte) & 0xFF]
     return value
 
 
@@ -64,7 +71,7 @@ def frame(asyncmap, payload):
 
 class Reader:
     def __init__(self, room, fill, standard):
-        self.buf = bytearray([fill]) * room
+        self.buf, self.room = bytearray([fill]) * room, room
         self.state, self.escape, self.kept, self.standard = 'start', False, 0, standard
 
     def consume(self, data):
@@ -96,7 +103,7 @@ class Reader:
 
     def store(self, b):
         self.escape = False
-        if self.kept == len(self.buf):
+        if self.kept >= self.room:
             self.state, self.kept = 'start', 0
         else:
             self.buf[self.kept] = b

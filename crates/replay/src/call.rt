@@ -5,6 +5,7 @@ use crate::word::decimal;
 use crate::word::hex;
 use crate::word::part;
 use crate::word::split;
+use crate::world::lent;
 
 // Lengths are at most 4,096; a count says how many bytes were put to the front of the buffer for them. A number of two, four or
 // eight digits fits its type, so that the remainders below are the number itself.
@@ -18,6 +19,7 @@ pub(crate) enum Call {
     Crc { seed: u16, count: usize },
     Writer(WriterCall),
     Reader(ReaderCall),
+    Link(LinkCall),
 }
 
 pub(crate) enum WriterCall {
@@ -33,6 +35,48 @@ pub(crate) enum ReaderCall {
     Receive,
 }
 
+// The rooms say how much of the transmit and the receive buffer is lent. The bytes of a password lie behind those of the name.
+pub(crate) enum LinkCall {
+    New {
+        name: usize,
+        pass: usize,
+        standard: bool,
+    },
+    Open,
+    Consume {
+        room: usize,
+        count: usize,
+    },
+    Poll {
+        tx_room: usize,
+        rx_room: usize,
+    },
+    Send {
+        room: usize,
+        count: usize,
+    },
+    Part {
+        from: usize,
+        to: usize,
+        room: usize,
+    },
+    Status,
+    Dump,
+}
+
+fn link_alone(name: &[u8]) -> Call {
+    if check::same(name, b"open") {
+        return Call::Link(LinkCall::Open);
+    }
+    if check::same(name, b"status") {
+        return Call::Link(LinkCall::Status);
+    }
+    if check::same(name, b"dump") {
+        return Call::Link(LinkCall::Dump);
+    }
+    Call::Bad
+}
+
 fn alone(name: &[u8]) -> Call {
     if check::same(name, b"reset") {
         return Call::Reset;
@@ -46,7 +90,7 @@ fn alone(name: &[u8]) -> Call {
     if check::same(name, b"rreceive") {
         return Call::Reader(ReaderCall::Receive);
     }
-    Call::Bad
+    link_alone(name)
 }
 
 fn reader_new(room: &[u8], standard: bool) -> Call {
@@ -122,6 +166,80 @@ fn writer_new(room: &[u8], map: &[u8]) -> Call {
     Call::Writer(WriterCall::New { room, asyncmap })
 }
 
+fn link_new(name: &[u8], pass: &[u8], standard: bool, src: &mut [u8]) -> Call {
+    let Found::Is(name) = bytes(name, src) else {
+        return Call::Bad;
+    };
+    let n = lent(src, name);
+    let Found::Is(pass) = bytes(pass, &mut src[n..]) else {
+        return Call::Bad;
+    };
+    Call::Link(LinkCall::New {
+        name,
+        pass,
+        standard,
+    })
+}
+
+fn link_consume(room: &[u8], word: &[u8], src: &mut [u8]) -> Call {
+    let Found::Is(room) = decimal(room) else {
+        return Call::Bad;
+    };
+    let Found::Is(count) = bytes(word, src) else {
+        return Call::Bad;
+    };
+    Call::Link(LinkCall::Consume { room, count })
+}
+
+fn link_send(room: &[u8], word: &[u8], src: &mut [u8]) -> Call {
+    let Found::Is(room) = decimal(room) else {
+        return Call::Bad;
+    };
+    let Found::Is(count) = bytes(word, src) else {
+        return Call::Bad;
+    };
+    Call::Link(LinkCall::Send { room, count })
+}
+
+fn link_poll(tx_room: &[u8], rx_room: &[u8]) -> Call {
+    let Found::Is(tx_room) = decimal(tx_room) else {
+        return Call::Bad;
+    };
+    let Found::Is(rx_room) = decimal(rx_room) else {
+        return Call::Bad;
+    };
+    Call::Link(LinkCall::Poll { tx_room, rx_room })
+}
+
+fn link_part(from: &[u8], to: &[u8], room: &[u8]) -> Call {
+    let Found::Is(from) = decimal(from) else {
+        return Call::Bad;
+    };
+    let Found::Is(to) = decimal(to) else {
+        return Call::Bad;
+    };
+    let Found::Is(room) = decimal(room) else {
+        return Call::Bad;
+    };
+    Call::Link(LinkCall::Part { from, to, room })
+}
+
+fn link_with_two(name: &[u8], first: &[u8], second: &[u8], src: &mut [u8]) -> Call {
+    if check::same(name, b"new") {
+        return link_new(first, second, false, src);
+    }
+    if check::same(name, b"consume") {
+        return link_consume(first, second, src);
+    }
+    if check::same(name, b"poll") {
+        return link_poll(first, second);
+    }
+    if check::same(name, b"send") {
+        return link_send(first, second, src);
+    }
+    Call::Bad
+}
+
 fn with_two(name: &[u8], first: &[u8], second: &[u8], src: &mut [u8]) -> Call {
     if check::same(name, b"fill") {
         return fill(first, second);
@@ -135,6 +253,19 @@ fn with_two(name: &[u8], first: &[u8], second: &[u8], src: &mut [u8]) -> Call {
     if check::same(name, b"rnew") {
         if check::same(second, b"standard") {
             return reader_new(first, true);
+        }
+        return Call::Bad;
+    }
+    link_with_two(name, first, second, src)
+}
+
+fn with_three(name: &[u8], first: &[u8], second: &[u8], third: &[u8], src: &mut [u8]) -> Call {
+    if check::same(name, b"part") {
+        return link_part(first, second, third);
+    }
+    if check::same(name, b"new") {
+        if check::same(third, b"standard") {
+            return link_new(first, second, true, src);
         }
     }
     Call::Bad
@@ -152,11 +283,13 @@ pub(crate) fn call_of(line: &[u8], src: &mut [u8]) -> Call {
     }
     let first = part(line, words.first);
     let second = part(line, words.second);
+    let third = part(line, words.third);
     let count = words.count;
     match count {
         1 => alone(name),
         2 => with_one(name, first, src),
         3 => with_two(name, first, second, src),
+        4 => with_three(name, first, second, third, src),
         _ => Call::Bad,
     }
 }

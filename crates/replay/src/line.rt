@@ -64,11 +64,13 @@ fn respond(
     src: &mut [u8],
     wbuf: &mut [u8],
     rbuf: &mut [u8],
+    tx: &mut [u8],
+    rx: &mut [u8],
     out: &mut [u8],
 ) -> Session {
     let call = whole(line, s.len, src);
     let world = s.world;
-    let a = answer(world, call, src, wbuf, rbuf, out);
+    let a = answer(world, call, src, wbuf, rbuf, tx, rx, out);
     let n = lent(out, a.len);
     io::write_all(libc::STDOUT_FILENO, &out[0..n]);
     let world = a.world;
@@ -86,10 +88,12 @@ fn take(
     src: &mut [u8],
     wbuf: &mut [u8],
     rbuf: &mut [u8],
+    tx: &mut [u8],
+    rx: &mut [u8],
     out: &mut [u8],
 ) -> Session {
     if b == b'\n' {
-        return respond(s, line, src, wbuf, rbuf, out);
+        return respond(s, line, src, wbuf, rbuf, tx, rx, out);
     }
     let len = keep(line, s.len, b);
     s.at(len)
@@ -103,6 +107,8 @@ pub(crate) fn feed(
     src: &mut [u8],
     wbuf: &mut [u8],
     rbuf: &mut [u8],
+    tx: &mut [u8],
+    rx: &mut [u8],
     out: &mut [u8],
 ) -> Session {
     let mut s = s;
@@ -110,7 +116,7 @@ pub(crate) fn feed(
     while i < chunk.len() {
         let b = chunk[i];
         i += 1;
-        s = take(s, b, line, src, wbuf, rbuf, out);
+        s = take(s, b, line, src, wbuf, rbuf, tx, rx, out);
     }
     s
 }
@@ -122,10 +128,12 @@ pub(crate) fn finish(
     src: &mut [u8],
     wbuf: &mut [u8],
     rbuf: &mut [u8],
+    tx: &mut [u8],
+    rx: &mut [u8],
     out: &mut [u8],
 ) -> Session {
     if s.len > 0 {
-        return respond(s, line, src, wbuf, rbuf, out).ended();
+        return respond(s, line, src, wbuf, rbuf, tx, rx, out).ended();
     }
     s.ended()
 }

@@ -12,6 +12,7 @@ use crate::world::fill;
 use crate::world::front;
 use crate::world::lent;
 use crate::world::said;
+use framing::frame_reader::Consumed;
 use framing::frame_reader::FrameReader;
 use framing::frame_reader::Got;
 use framing::frame_reader::Reading;
@@ -27,8 +28,8 @@ fn state(out: &mut [u8], at: usize, s: State) -> usize {
     }
 }
 
-// The reader as a call leaves it.
-fn left(out: &mut [u8], at: usize, r: FrameReader) -> usize {
+// A reader as a call leaves it.
+pub(crate) fn left(out: &mut [u8], at: usize, r: FrameReader) -> usize {
     let s = r.state;
     let at = text(out, at, b" reader=");
     let at = state(out, at, s);
@@ -45,19 +46,23 @@ fn counted(out: &mut [u8], o: Outcome, count: usize) -> usize {
     number(out, at, count)
 }
 
-fn consume(w: World, src: &[u8], buf: &mut [u8], out: &mut [u8]) -> Answered {
-    let n = lent(buf, w.reader_room);
-    let reader = w.reader;
-    let r = reader.consume(&mut buf[0..n], src);
+fn consumed(w: World, r: Consumed, buf: &[u8], out: &mut [u8]) -> Answered {
     let o = r.outcome;
     let reader = r.reader;
     let at = counted(out, o, r.count);
     let at = left(out, at, reader);
-    let len = end(out, at, b" rx=", &buf[0..n], w.rx_fill);
+    let len = end(out, at, b" rx=", buf, w.rx_fill);
     Answered {
         world: w.with_reader(w.reader_room, reader),
         len,
     }
+}
+
+fn consume(w: World, src: &[u8], buf: &mut [u8], out: &mut [u8]) -> Answered {
+    let n = lent(buf, w.reader_room);
+    let reader = w.reader;
+    let r = reader.consume(&mut buf[0..n], src);
+    consumed(w, r, &buf[0..n], out)
 }
 
 fn got(out: &mut [u8], at: usize, g: Got) -> usize {
@@ -87,7 +92,7 @@ fn receive(w: World, out: &mut [u8]) -> Answered {
     }
 }
 
-fn reading(standard: bool) -> Reading {
+pub(crate) fn reading(standard: bool) -> Reading {
     if standard {
         Reading::Standard
     } else {

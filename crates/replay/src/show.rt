@@ -40,7 +40,7 @@ pub(crate) fn number(out: &mut [u8], at: usize, n: usize) -> usize {
     text(out, at, &digits[..k])
 }
 
-fn wide(x: u8) -> usize {
+pub(crate) fn wide(x: u8) -> usize {
     x as usize
 }
 
@@ -52,6 +52,12 @@ fn narrow(x: u16) -> u8 {
 pub(crate) fn word(out: &mut [u8], at: usize, x: u16) -> usize {
     let next = two_digits(out, at, narrow(x / 256));
     two_digits(out, next, narrow(x))
+}
+
+// Eight hex digits.
+pub(crate) fn long(out: &mut [u8], at: usize, x: u32) -> usize {
+    let next = word(out, at, (x / 0x1_0000 % 0x1_0000) as u16);
+    word(out, next, (x % 0x1_0000) as u16)
 }
 
 pub(crate) fn flag(out: &mut [u8], at: usize, b: bool) -> usize {
@@ -72,7 +78,7 @@ fn digits(out: &mut [u8], at: usize, s: &[u8]) -> usize {
 }
 
 // Bytes in hex, or `-` for none.
-fn bytes(out: &mut [u8], at: usize, s: &[u8]) -> usize {
+pub(crate) fn bytes(out: &mut [u8], at: usize, s: &[u8]) -> usize {
     if s.len() == 0 {
         return put(out, at, b'-');
     }
@@ -98,10 +104,30 @@ fn buffer(out: &mut [u8], at: usize, s: &[u8], fill: u8) -> usize {
     number(out, at, s.len() - n)
 }
 
-// The end of an answer: a name, and the buffer that was lent.
-pub(crate) fn end(out: &mut [u8], at: usize, name: &[u8], s: &[u8], fill: u8) -> usize {
+// A name, and the buffer that was lent.
+pub(crate) fn field(out: &mut [u8], at: usize, name: &[u8], s: &[u8], fill: u8) -> usize {
     let at = text(out, at, name);
-    let at = buffer(out, at, s, fill);
+    buffer(out, at, s, fill)
+}
+
+// The same at the end of an answer.
+pub(crate) fn end(out: &mut [u8], at: usize, name: &[u8], s: &[u8], fill: u8) -> usize {
+    let at = field(out, at, name, s, fill);
+    text(out, at, b"\n")
+}
+
+fn not_feed(c: u8) -> u8 {
+    if c == b'\n' { b' ' } else { c }
+}
+
+// Lines, each ended by a line feed, as one: blanks stand for the line feeds but the last.
+pub(crate) fn one_line(out: &mut [u8], at: usize, s: &[u8]) -> usize {
+    let mut at = at;
+    let mut i = 1;
+    while i < s.len() {
+        at = put(out, at, not_feed(s[i - 1]));
+        i += 1;
+    }
     text(out, at, b"\n")
 }
 
@@ -110,7 +136,21 @@ pub(crate) fn refused(out: &mut [u8], at: usize, r: Refusal) -> usize {
     number(out, at, wide(framing::refusal::number(r)))
 }
 
+// What the link answers a refused call with.
+pub(crate) fn declined(out: &mut [u8], at: usize, r: link::refusal::Refusal) -> usize {
+    let at = text(out, at, b"refuse ");
+    number(out, at, wide(link::refusal::number(r)))
+}
+
 // `ok`, or `refuse` and the number.
+pub(crate) fn done(out: &mut [u8], at: usize, o: link::refusal::Outcome) -> usize {
+    match o {
+        link::refusal::Outcome::Done => text(out, at, b"ok"),
+        link::refusal::Outcome::Refused(r) => declined(out, at, r),
+    }
+}
+
+// The same for the writer and the reader alone.
 pub(crate) fn outcome(out: &mut [u8], at: usize, o: Outcome) -> usize {
     match o {
         Outcome::Done => text(out, at, b"ok"),

@@ -12,6 +12,7 @@ pub(crate) struct Words {
     pub(crate) name: Word,
     pub(crate) first: Word,
     pub(crate) second: Word,
+    pub(crate) third: Word,
     pub(crate) count: usize,
 }
 
@@ -54,12 +55,14 @@ pub(crate) fn split(line: &[u8]) -> Words {
     let name = next(line, 0);
     let first = next(line, name.to);
     let second = next(line, first.to);
-    let more = next(line, second.to);
-    let count = present(name) + present(first) + present(second) + present(more);
+    let third = next(line, second.to);
+    let more = next(line, third.to);
+    let count = present(name) + present(first) + present(second) + present(third) + present(more);
     Words {
         name,
         first,
         second,
+        third,
         count,
     }
 }

@@ -5,8 +5,10 @@ use crate::show::text;
 use framing::frame_reader::FrameReader;
 use framing::frame_reader::Reading;
 use framing::frame_writer::FrameWriter;
+use link::pppos::PPPoS;
 
-// Each buffer is lent up to its room, and its trailing bytes are shown as a count where they are its fill byte.
+// Writer and reader have each a buffer that is lent up to its room. The link has two, and each call says how much of them is lent.
+// The trailing bytes of a buffer are shown as a count where they are the fill byte.
 pub(crate) struct World {
     pub(crate) rx_fill: u8,
     pub(crate) tx_fill: u8,
@@ -14,6 +16,7 @@ pub(crate) struct World {
     pub(crate) writer: FrameWriter,
     pub(crate) reader_room: usize,
     pub(crate) reader: FrameReader,
+    pub(crate) link: PPPoS,
 }
 
 // The world after a call, and how much of the answer's buffer its text takes.
@@ -23,6 +26,8 @@ pub(crate) struct Answered {
 }
 
 pub(crate) fn fresh() -> World {
+    let c = PPPoS::new(b"", b"", Reading::Crate);
+    let link = c.link;
     World {
         rx_fill: 0x00,
         tx_fill: 0xEE,
@@ -30,12 +35,14 @@ pub(crate) fn fresh() -> World {
         writer: FrameWriter::new(),
         reader_room: 0,
         reader: FrameReader::new(Reading::Crate),
+        link,
     }
 }
 
 impl World {
     pub(crate) fn with_writer(self, room: usize, writer: FrameWriter) -> Self {
         let reader = self.reader;
+        let link = self.link;
         World {
             rx_fill: self.rx_fill,
             tx_fill: self.tx_fill,
@@ -43,11 +50,13 @@ impl World {
             writer,
             reader_room: self.reader_room,
             reader,
+            link,
         }
     }
 
     pub(crate) fn with_reader(self, room: usize, reader: FrameReader) -> Self {
         let writer = self.writer;
+        let link = self.link;
         World {
             rx_fill: self.rx_fill,
             tx_fill: self.tx_fill,
@@ -55,12 +64,28 @@ impl World {
             writer,
             reader_room: room,
             reader,
+            link,
+        }
+    }
+
+    pub(crate) fn with_link(self, link: PPPoS) -> Self {
+        let writer = self.writer;
+        let reader = self.reader;
+        World {
+            rx_fill: self.rx_fill,
+            tx_fill: self.tx_fill,
+            writer_room: self.writer_room,
+            writer,
+            reader_room: self.reader_room,
+            reader,
+            link,
         }
     }
 
     pub(crate) fn with_fills(self, rx_fill: u8, tx_fill: u8) -> Self {
         let writer = self.writer;
         let reader = self.reader;
+        let link = self.link;
         World {
             rx_fill,
             tx_fill,
@@ -68,6 +93,7 @@ impl World {
             writer,
             reader_room: self.reader_room,
             reader,
+            link,
         }
     }
 }

@@ -7,15 +7,17 @@ use Rattle.replay.proofs.line.feed.Statement.{statement}
 use Rattle.replay.proofs.line.feed.Tie as tie
 
 abbrev Inv-loop : tie.InvT-loop
-Inv-loop chunk line₀ src₀ wbuf₀ rbuf₀ out₀ s₀ i₀ line src wbuf rbuf out s i =
+Inv-loop chunk line₀ src₀ wbuf₀ rbuf₀ tx₀ rx₀ out₀ s₀ i₀ line src wbuf rbuf tx rx out s i =
     (length line ≡ length line₀)
     × (length src ≡ length src₀)
     × (length wbuf ≡ length wbuf₀)
     × (length rbuf ≡ length rbuf₀)
+    × (length tx ≡ length tx₀)
+    × (length rx ≡ length rx₀)
     × (length out ≡ length out₀)
 
 abbrev μ-loop : tie.MeasureT-loop
-μ-loop chunk line₀ src₀ wbuf₀ rbuf₀ out₀ s₀ i₀ line src wbuf rbuf out s i = length chunk - i
+μ-loop chunk line₀ src₀ wbuf₀ rbuf₀ tx₀ rx₀ out₀ s₀ i₀ line src wbuf rbuf tx rx out s i = length chunk - i
 
 loop-holds : tie.Need-loop-holds Inv-loop μ-loop
 loop-holds c = search needs
@@ -50,6 +52,12 @@ same-length-4 c = search needs
 same-length-5 : tie.Need-same-length-5 Inv-loop μ-loop
 same-length-5 c = search needs
 
+same-length-6 : tie.Need-same-length-6 Inv-loop μ-loop
+same-length-6 c = search needs
+
+same-length-7 : tie.Need-same-length-7 Inv-loop μ-loop
+same-length-7 c = search needs
+
 returns : tie.Need-returns Inv-loop μ-loop
 returns c = search needs
 
@@ -70,4 +78,6 @@ feed-spec =
     same-length-3
     same-length-4
     same-length-5
+    same-length-6
+    same-length-7
     returns)

@@ -1,0 +1,22 @@
+use mathlib.Core.Path.{ap, ap₂, _∙_}
+use Rattle.link.specs.Link.{linkOf, outcomeOf}
+use borrow.Author.Needs.{needs}
+use Rattle.link.proofs.pppos.PPPoS.new.Statement.{statement}
+use Rattle.link.proofs.pppos.PPPoS.new.Tie as tie
+
+new-requires : tie.Need-new-requires
+new-requires c κs = search needs
+
+outcome-of-requires : tie.Need-outcome-of-requires
+outcome-of-requires c κs = search needs
+
+new-requires-2 : tie.Need-new-requires-2
+new-requires-2 c κs = search needs
+
+returns : tie.Need-returns
+returns c =
+    let n = c .before .before .before .new .ensures in
+    record { outcome = c .before .outcome-of .ensures ∙ ap outcomeOf (n .outcome); link = ap₂ linkOf (c .new2 .ensures) (n .ppp) }
+
+pub new-spec : {M : Type 1} → statement M
+new-spec = tie.close (tie.spec new-requires outcome-of-requires new-requires-2 returns)
