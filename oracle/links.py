@@ -29,6 +29,7 @@ ROUTES = {
     'open': ALL_UP,
     'open, addresses given': (*UP, 'ip nack', 'ip request', 'ip ack'),
     'open, options rejected': ('open', 'poll', 'lcp reject', 'lcp request', 'lcp ack', 'ip reject', 'ip ack', 'ip request'),
+    'open, options given, then rejected': (*UP, 'ip nack', 'ip reject', 'ip request', 'ip ack'),
     'open, lcp request sent': (*ALL_UP, 'lcp ack'),
     'open, lcp ack received': (*ALL_UP, 'lcp ack', 'lcp ack'),
     'open, lcp ack sent': (*ALL_UP, 'lcp request'),
@@ -224,7 +225,8 @@ class Links(Script):
             yield IPV4.to_bytes(2, 'big') + self.payload(n)
 
     def packets_in(self, state):
-        """Each edge packet in a state; a packet behind it shows what it left."""
+        """Each edge packet in a state; two packets behind it show what it left."""
+        behind = (('lcp request', 'lcp ack'), ('ip request', 'ip ack'), ('pap ack', 'ip request'))
         for kind, packets in (('lengths', self.lengths), ('options', self.option_lists), ('others', self.others)):
             for payload in packets():
                 # A share, which differs from seed to seed.
@@ -232,7 +234,7 @@ class Links(Script):
                     continue
                 self.start(f'{kind}: {state}', ROUTES[state])
                 self.take(payload, show=True)
-                self.take(self.step(self.dice.pick(('lcp request', 'lcp ack', 'ip request', 'ip ack', 'pap ack'))), show=True)
+                self.go(self.dice.pick(behind), show=True)
 
     def codes_in(self, state):
         for protocol in (LCP, IPV4CP, PAP):
