@@ -2,6 +2,7 @@ pub mod Calls
 pub mod Causes
 pub mod Faults
 pub mod Feeding
+pub mod Hearing
 pub mod OneAnswer
 pub mod Passing
 pub mod Polling
