@@ -20,7 +20,7 @@ use Rattle.framing.proofs.Stuffing.{stuffed-append}
 use Rattle.framing.proofs.Unstuffing.{controlOn, stuffed-fields, frame-length}
 
 -- the register behind FF 03 is the one behind 03, from 00FF
-started : (p : List ℕ) → fcs 0x00FF (0x03 ∷ p) ≡ fcs 0x3DE3 p
+pub started : (p : List ℕ) → fcs 0x00FF (0x03 ∷ p) ≡ fcs 0x3DE3 p
 unfolding fcs fcsBits
 started p = refl
 

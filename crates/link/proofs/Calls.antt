@@ -12,10 +12,13 @@ use borrow.Author.Tests.{leb-true, leb-false, ltb-true, ltb-false}
 use lib.Dec.{leb}
 use lib.ListN.{length, take, length-append}
 use Rattle.laws.proofs.Cases.{by-test}
-use Rattle.framing.specs.Rfc1662.{fcs, fcsBits, checkBytes, unit, frame}
+use Rattle.framing.specs.Rfc1662.{fcs, checkBytes, unit, frame}
 use Rattle.framing.specs.Writer.{over, units, frameUnits, join, fit, holds}
-use Rattle.framing.specs.Reader.{isShort, consumed, freshReader}
+use Rattle.framing.specs.Reader.{isShort, freshReader}
 use Rattle.framing.specs.declared.frame_reader.Reading.{Reading}
+use Rattle.framing.proofs.Fcs.{fcs-address}
+use Rattle.framing.proofs.Frame.{started}
+use Rattle.framing.proofs.Reader.{consumed-short}
 use Rattle.negotiation.specs.Pap.{fitsCredentials}
 use Rattle.negotiation.specs.Phases.{isDead, openOf, newOf}
 use Rattle.negotiation.specs.declared.ppp.Phase.{Phase}
@@ -64,10 +67,11 @@ open-first l c =
 
 pub consume-first : (l : PPPoS) (rx bs : List ℕ) {o : Outcome} {n : ℕ} {l′ : PPPoS} {rx′ : List ℕ} → Consumes l rx bs o n l′ rx′
     → First (outcomeNumber o) (record { count = n; link = l′; rx = rx′ }) (consumeRows l rx)
-unfolding consumed
 consume-first l rx bs c =
     by-test (isShort (heldBy l rx))
-    (λ e. inl (consumes-number c ∙ rw e refl, ltb-true _ _ e, (c .count ∙ rw (e, sub-self) refl, c .link ∙ rw e refl, c .bytes ∙ rw e refl)))
+    (λ e. let h = ltb-true (length rx) (l .«frame_reader» .len) e in
+    let s = consumed-short (heldBy l rx) bs h in
+    inl (consumes-number c ∙ rw e refl, h, (c .count ∙ rw (s, sub-self) refl, c .link ∙ rw s refl, c .bytes ∙ rw s refl)))
     (λ e. inr ((λ h. omega (arith, ltb-false (length rx) (l .«frame_reader» .len) e)), consumes-number c ∙ rw e refl))
 
 -- ---- send
@@ -80,14 +84,9 @@ units-map m (b ∷ l) = ap (λ (us : List (List ℕ)). unit m b ∷ us) (units-m
 units-behind : (m : ℕ) (p c : List ℕ) (e : List (List ℕ)) → units m p ++ (units m c ++ e) ≡ map (unit m) (p ++ c) ++ e
 units-behind m p c e = rw (units-map m p, units-map m c, map-append, append-assoc) refl
 
--- the register behind FF 03, from FFFF
-started : (p : List ℕ) → fcs 0xFFFF (0xFF ∷ 0x03 ∷ p) ≡ fcs 0x3DE3 p
-unfolding fcs fcsBits
-started p = refl
-
 frame-units : (m : ℕ) (p : List ℕ) → frameUnits m p ≡ unitsOf m p
 frame-units m p =
-    rw (started p) (ap (λ (us : List (List ℕ)). (0x7E ∷ 0xFF ∷ []) ∷ unit m 0x03 ∷ us) (units-behind m p (checkBytes (fcs 0x3DE3 p)) ((0x7E ∷ []) ∷ [])))
+    rw (fcs-address (0x03 ∷ p), started p) (ap (λ (us : List (List ℕ)). (0x7E ∷ 0xFF ∷ []) ∷ unit m 0x03 ∷ us) (units-behind m p (checkBytes (fcs 0x3DE3 p)) ((0x7E ∷ []) ∷ [])))
 
 -- a number of units that room bytes hold, and one more they do not
 record Run (us : List (List ℕ)) (room : ℕ) : Type 0 where

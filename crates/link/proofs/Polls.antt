@@ -132,51 +132,31 @@ module _ (l : PPPoS) (tx rx : List ℕ) where
           ),
         )
 
+    -- behind the rows 3, 5 and 6, for a number above them
+    past-length : (m : ℕ) → numberFrom (l .ppp) pkt ≡ m → 6 < m → First m (keptOf q) (drop 3 (pollRows l tx rx out))
+        → First m (keptOf q) (pollRows l tx rx out)
+    past-length m e k f =
+        inr (
+          held,
+          inr (
+            (λ h. omega (arith, short-refused (l .ppp) pkt (h .1))),
+            inr ((λ h. omega (arith, length-refused (l .ppp) pkt (h .1))), f),
+          ),
+        )
+
+    -- the option's fault has another number
+    not-option : (m n : ℕ) → numberFrom (l .ppp) pkt ≡ m → (n ≡ m → ⊥) → Got × OptionFault (l .ppp) pkt n → ⊥
+    not-option m n e k h = k (sym (option-refused (l .ppp) pkt (h .1)) ∙ e)
+
     -- one that is
     first-option : (m : ℕ) → Got → numberFrom (l .ppp) pkt ≡ m → Dropped q → OptionFault (l .ppp) pkt m → (m ≡ 7) ⊎ ((m ≡ 8) ⊎ (m ≡ 9))
         → First m (keptOf q) (pollRows l tx rx out)
-    first-option m g e d x (inl n) =
-        inr (
-          held,
-          inr (
-            (λ h. omega (arith, short-refused (l .ppp) pkt (h .1))),
-            inr (
-              (λ h. omega (arith, length-refused (l .ppp) pkt (h .1))),
-              inl (n, (g, rw n at x), d),
-            ),
-          ),
-        )
+    first-option m g e d x (inl n) = past-length m e (omega arith) (inl (n, (g, rw n at x), d))
     first-option m g e d x (inr (inl n)) =
-        inr (
-          held,
-          inr (
-            (λ h. omega (arith, short-refused (l .ppp) pkt (h .1))),
-            inr (
-              (λ h. omega (arith, length-refused (l .ppp) pkt (h .1))),
-              inr (
-                (λ h. omega (arith, option-refused (l .ppp) pkt (h .1))),
-                inl (n, (g, rw n at x), d),
-              ),
-            ),
-          ),
-        )
+        past-length m e (omega arith) (inr (not-option m 7 e (λ k. omega arith), inl (n, (g, rw n at x), d)))
     first-option m g e d x (inr (inr n)) =
-        inr (
-          held,
-          inr (
-            (λ h. omega (arith, short-refused (l .ppp) pkt (h .1))),
-            inr (
-              (λ h. omega (arith, length-refused (l .ppp) pkt (h .1))),
-              inr (
-                (λ h. omega (arith, option-refused (l .ppp) pkt (h .1))),
-                inr (
-                  (λ h. omega (arith, option-refused (l .ppp) pkt (h .1))),
-                  inl (n, (g, rw n at x), d),
-                ),
-              ),
-            ),
-          ),
-        )
+        past-length m e (omega arith)
+        (inr (not-option m 7 e (λ k. omega arith), inr (not-option m 8 e (λ k. omega arith), inl (n, (g, rw n at x), d))))
 
     first-refused : (m : ℕ) → Got → numberFrom (l .ppp) pkt ≡ m → (m ≡ 0 → ⊥) → Dropped q → Cause (l .ppp) pkt m
         → First m (keptOf q) (pollRows l tx rx out)
@@ -186,25 +166,11 @@ module _ (l : PPPoS) (tx rx : List ℕ) where
         inr (held, inr ((λ h. omega (arith, short-refused (l .ppp) pkt (h .1))), inl (refl, (g, h), d)))
     first-refused m g e z d (option x) = first-option _ g e d x (option-number x)
     first-refused m g e z d (replyLong h) =
-        inr (
-          held,
-          inr (
-            (λ h. omega (arith, short-refused (l .ppp) pkt (h .1))),
-            inr (
-              (λ h. omega (arith, length-refused (l .ppp) pkt (h .1))),
-              inr (
-                (λ h. omega (arith, option-refused (l .ppp) pkt (h .1))),
-                inr (
-                  (λ h. omega (arith, option-refused (l .ppp) pkt (h .1))),
-                  inr (
-                    (λ h. omega (arith, option-refused (l .ppp) pkt (h .1))),
-                    inl (refl, (g, h), d),
-                  ),
-                ),
-              ),
-            ),
-          ),
-        )
+        past-length 10 e (omega arith)
+        (inr (
+          not-option 10 7 e (λ k. omega arith),
+          inr (not-option 10 8 e (λ k. omega arith), inr (not-option 10 9 e (λ k. omega arith), inl (refl, (g, h), d))),
+        ))
 
   module _ (r : FrameReader) (t : PppTurn) where
     answered-done : t .outcome ≡ Done → answered l r t tx rx ≡ written l r t tx rx
