@@ -20,10 +20,10 @@ use Rattle.framing.proofs.Fcs.{fcs-address}
 use Rattle.framing.proofs.Frame.{started}
 use Rattle.framing.proofs.Reader.{consumed-short}
 use Rattle.negotiation.specs.Pap.{fitsCredentials}
-use Rattle.negotiation.specs.Phases.{isDead, openOf, newOf}
-use Rattle.negotiation.specs.declared.ppp.Phase.{Phase}
-use Rattle.negotiation.specs.declared.ppp.Phase.the-variants.{Dead, Establish, Auth, Network, Open}
-use Rattle.negotiation.specs.declared.ppp.Status.{Status}
+use Rattle.phases.specs.Phases.{isDead, openOf, newOf}
+use Rattle.phases.specs.declared.ppp.Phase.{Phase}
+use Rattle.phases.specs.declared.ppp.Phase.the-variants.{Dead, Establish, Auth, Network, Open}
+use Rattle.phases.specs.declared.ppp.Status.{Status}
 use Rattle.negotiation.proofs.Paps.{fits-sum}
 use Rattle.link.proofs.Passing.{consumes-number, sends-number}
 use Rattle.link.specs.Refusal.{outcomeNumber}

@@ -15,11 +15,11 @@ use Rattle.negotiation.specs.Refusal.{outcomeNumber}
 use Rattle.negotiation.specs.Options.{walkOf}
 use Rattle.negotiation.specs.Proto.{startOf, nacksOf}
 use Rattle.negotiation.specs.Reply.{freshReply, replyOf}
-use Rattle.negotiation.specs.Automaton.{isClosed, isOpened, ackResends, Turn, unless, requested, ackOf, repliedTurn, reqWith, reqOf, nackWith, nackOf, termAckOf, ignoredTurn, echoOf, actOf, handleOf}
+use Rattle.negotiation.specs.Automaton.{isClosed, isOpened, ackResends, Turn, unless, requested, ackOf, repliedTurn, reqWith, reqOf, nackWith, nackOf, termAckOf, ignoredTurn, echoOf, actOf, handleOf, rejectTurn}
 use Rattle.negotiation.specs.Pap.{isPapSent, PapTurn, papRequested, papActOf, papHandleOf}
-use Rattle.negotiation.specs.Phases.{lcpIn, ipv4cpIn, PppTurn, rejectOf, receivedOf}
+use Rattle.phases.specs.Phases.{lcpIn, ipv4cpIn, PppTurn, rejectOf, receivedOf}
 use Rattle.negotiation.specs.declared.option_fsm.OptionFsm.{OptionFsm}
-use Rattle.negotiation.specs.declared.ppp.Ppp.{Ppp}
+use Rattle.phases.specs.declared.ppp.Ppp.{Ppp}
 use Rattle.negotiation.specs.declared.refusal.Outcome.{Outcome}
 use Rattle.negotiation.specs.declared.refusal.Outcome.the-variants.{Done, Refused}
 use Rattle.negotiation.specs.declared.refusal.Refusal.the-variants.{ConfigureShort, EchoEmpty, ReplyLong as LongReply}
@@ -194,7 +194,7 @@ module _ (p : Ppp) (pkt : List ℕ) where
 
   reject-refused : (protocolAt pkt ≡ 0xC021 → ⊥) → (protocolAt pkt ≡ 0xC023 → ⊥) → (protocolAt pkt ≡ 0x0021 → ⊥) → (protocolAt pkt ≡ 0x8021 → ⊥)
       → 128 < length pkt + 6 → numberFrom p pkt ≡ 10
-  unfolding receivedOf rejectOf
+  unfolding receivedOf rejectOf rejectTurn
   reject-refused a b c d h =
       let two : 2 ≤ length pkt = omega arith in
       let long : 122 < length pkt = omega arith in
@@ -292,7 +292,7 @@ module _ (p : Ppp) (pkt : List ℕ) where
       (λ _. cond-all P (s && eqb c 2) fine (cond-all P (s && eqb c 3) fine fine))))
 
   pub cause : Cause p pkt (numberFrom p pkt)
-  unfolding receivedOf rejectOf
+  unfolding receivedOf rejectOf rejectTurn
   cause =
       let P : PppTurn → Type 0 = λ t. Cause p pkt (outcomeNumber (t .outcome)) in
       let n = protocolAt pkt in
@@ -301,6 +301,6 @@ module _ (p : Ppp) (pkt : List ℕ) where
       (λ a. cond-by P (eqb n 0xC023) (λ e. pap-cause (eqb-true n 0xC023 e))
       (λ b. cond-by P (eqb n 0x0021) (λ _. fine)
       (λ c. cond-by P (eqb n 0x8021) (λ e. handle-cause p pkt ipv4cp (eqb-true n 0x8021 e))
-      (λ d. cond-by P (ltb 122 (length pkt))
+      (λ d. cond-by (λ (t : Turn). Cause p pkt (outcomeNumber (t .outcome))) (ltb 122 (length pkt))
       (λ l. replyLong (ReplyLong.reject (eqb-false _ _ a) (eqb-false _ _ b) (eqb-false _ _ c) (eqb-false _ _ d) (omega (arith, ltb-true 122 (length pkt) l))))
       (λ _. fine))))))

@@ -13,7 +13,7 @@ use Rattle.laws.proofs.Cases.{by-test, cond-all}
 use Rattle.framing.proofs.Reader.{consumed-left}
 use Rattle.framing.specs.Reader.{freshReader}
 use Rattle.framing.specs.declared.frame_reader.Reading.{Reading}
-use Rattle.negotiation.specs.Phases.{newOf, openOf}
+use Rattle.phases.specs.Phases.{newOf, openOf}
 use Rattle.negotiation.proofs.Walks.{rest}
 use Rattle.link.specs.Link.{Changes, heldBy, Consumes, pollLink, Polls}
 use Rattle.link.specs.Feed.{started, Run, runOf, turned, idleAfter, turns, fedLink, Feeds}

@@ -14,7 +14,7 @@ use Rattle.framing.specs.Writer.{over}
 use Rattle.framing.specs.Heard.{fetchedIn}
 use Rattle.framing.specs.declared.frame_reader.FrameReader.{FrameReader}
 use Rattle.framing.proofs.Reader.{consumed-fed, fed-left, Alike, alike-refl}
-use Rattle.negotiation.specs.Phases.{PppTurn, pollOf, turnOf}
+use Rattle.phases.specs.Phases.{PppTurn, pollOf, turnOf}
 use Rattle.negotiation.specs.declared.refusal.Outcome as negotiation
 use Rattle.link.specs.Frames.{frames}
 use Rattle.link.specs.Link.{heldBy, Consumes, linkOf, sent, Poll, echoedIn, byOutcome, answered, isIp, packetPoll, pollLink}

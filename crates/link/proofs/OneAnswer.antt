@@ -5,8 +5,8 @@ use mathlib.Core.List.{List}
 use Prim.Native.Nat.{ℕ}
 use Rattle.framing.specs.declared.frame_reader.FrameReader.{FrameReader}
 use Rattle.framing.proofs.OneAnswer.{lays-one}
-use Rattle.negotiation.specs.Phases.{PppTurn}
-use Rattle.negotiation.specs.declared.ppp.Status.{Status}
+use Rattle.phases.specs.Phases.{PppTurn}
+use Rattle.phases.specs.declared.ppp.Status.{Status}
 use Rattle.link.specs.declared.refusal.Outcome.{Outcome}
 use Rattle.link.specs.declared.pppos.PPPoS.{PPPoS}
 use Rattle.link.specs.declared.pppos.PPPoSAction.{PPPoSAction}

@@ -19,13 +19,14 @@ use Rattle.framing.specs.declared.frame_reader.FrameReader.{FrameReader}
 use Rattle.framing.specs.declared.frame_reader.Got.{Got}
 use Rattle.framing.specs.declared.frame_reader.Got.the-variants.{Packet, Refused, Nothing}
 use Rattle.framing.proofs.OneAnswer.{gots-differ}
-use Rattle.negotiation.specs.Phases.{PppTurn, protocolIn, pollOf, turnOf, turnedAs, Turns}
+use Rattle.negotiation.specs.Wire.{protocolIn}
+use Rattle.phases.specs.Phases.{PppTurn, pollOf, turnOf, turnedAs, Turns}
 use Rattle.negotiation.specs.declared.refusal.Refusal as negotiation
 use Rattle.negotiation.specs.declared.refusal.Outcome as negotiated
 use Rattle.negotiation.specs.declared.wire.Replies.{Replies}
-use Rattle.negotiation.specs.declared.ppp.Ppp.{Ppp}
-use Rattle.negotiation.specs.declared.ppp.Turned.{Turned}
-use Rattle.negotiation.proofs.Phasing as sending
+use Rattle.phases.specs.declared.ppp.Ppp.{Ppp}
+use Rattle.phases.specs.declared.ppp.Turned.{Turned}
+use Rattle.negotiation.proofs.Sends as sending
 use Rattle.link.specs.declared.refusal.Refusal.the-variants.{Framing, Negotiation, FramesFull}
 use Rattle.link.specs.declared.pppos.PPPoS.{PPPoS}
 use Rattle.link.specs.declared.pppos.PPPoSAction.{PPPoSAction}

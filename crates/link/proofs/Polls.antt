@@ -16,13 +16,14 @@ use Rattle.framing.specs.declared.frame_reader.FrameReader.{FrameReader}
 use Rattle.framing.specs.declared.frame_reader.State.{State}
 use Rattle.framing.specs.declared.frame_reader.State.the-variants.{Start, Address, Data, Complete}
 use Rattle.negotiation.specs.Refusal.{numberOf, outcomeNumber}
-use Rattle.negotiation.specs.Phases.{protocolIn, PppTurn, receivedOf, pollOf, turnOf}
-use Rattle.negotiation.specs.declared.ppp.Ppp.{Ppp}
+use Rattle.negotiation.specs.Wire.{protocolIn}
+use Rattle.phases.specs.Phases.{PppTurn, receivedOf, pollOf, turnOf}
+use Rattle.phases.specs.declared.ppp.Ppp.{Ppp}
 use Rattle.negotiation.specs.declared.refusal.Outcome.{Outcome}
 use Rattle.negotiation.specs.declared.refusal.Outcome.the-variants.{Done, Refused}
 use Rattle.negotiation.specs.declared.refusal.Refusal.{Refusal}
 use Rattle.negotiation.specs.declared.refusal.Refusal.the-variants.{NotDead, CredentialsLong, PacketShort, ConfigureShort, EchoEmpty, PapPast, OptionCut, OptionLong, OptionsMany, ReplyLong as LongReply}
-use Rattle.negotiation.proofs.Phasing.{turn-refused, turn-done}
+use Rattle.phases.proofs.Phasing.{turn-refused, turn-done}
 use Rattle.link.specs.Frames.{frames}
 use Rattle.link.specs.Link.{heldBy, linkOf, Poll, declined, written, answered, isIp, packetPoll, pollLink, Polls, actionNumber}
 use Rattle.link.specs.Table.{packetIn, OptionFault, Kept, transmitted, pollRows}

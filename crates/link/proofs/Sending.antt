@@ -17,11 +17,11 @@ use Rattle.framing.specs.Writer.{holds, Encodes, capped}
 use Rattle.framing.specs.declared.refusal.Outcome.{Outcome}
 use Rattle.framing.proofs.Unstuffing.{frame-narrow}
 use Rattle.negotiation.specs.Wire.{pktOf, repliesOf}
-use Rattle.negotiation.specs.Phases.{pollOf, turnOf}
-use Rattle.negotiation.specs.declared.ppp.Ppp.{Ppp}
+use Rattle.phases.specs.Phases.{pollOf, turnOf}
+use Rattle.phases.specs.declared.ppp.Ppp.{Ppp}
 use Rattle.negotiation.proofs.Wires.{content-pkt, len-pkt}
 use Rattle.negotiation.proofs.Proper as packet
-use Rattle.negotiation.proofs.Phasing.{poll-sends, turn-sends}
+use Rattle.phases.proofs.Phasing.{poll-sends, turn-sends}
 use Rattle.link.specs.Frames.{everyByte, frames, reply, replies, Short}
 
 -- ---- a frame in the rest of a buffer

@@ -6,8 +6,8 @@ use Prim.Native.Nat.{ℕ}
 use lib.ListN.{length, drop}
 use Rattle.framing.specs.Reader.{freshReader}
 use Rattle.framing.specs.declared.frame_reader.Reading.{Reading}
-use Rattle.negotiation.specs.Phases.{openOf, newOf}
-use Rattle.negotiation.specs.declared.ppp.Status.{Status}
+use Rattle.phases.specs.Phases.{openOf, newOf}
+use Rattle.phases.specs.declared.ppp.Status.{Status}
 use Rattle.link.specs.Refusal.{outcomeNumber}
 use Rattle.link.specs.Link.{Changes, Consumes, pollLink, Polls, actionNumber, Sends}
 use Rattle.link.specs.Lines.{linesOf, Shows}

@@ -10,12 +10,12 @@ use lib.Dec.{ltb, leb, lit≤}
 use lib.ListN.{length, take, replicate, length-append, length-replicate}
 use Rattle.laws.proofs.Cases.{by-test, cond-by, cond-all}
 use Rattle.laws.proofs.Stores.{sets-append, sets-front, take-sets}
-use Rattle.negotiation.specs.Phases.{shownIf}
-use Rattle.negotiation.specs.declared.ppp.Phase.{Phase}
-use Rattle.negotiation.specs.declared.ppp.Phase.the-variants.{Dead, Establish, Auth, Network, Open}
+use Rattle.phases.specs.Phases.{shownIf}
+use Rattle.phases.specs.declared.ppp.Phase.{Phase}
+use Rattle.phases.specs.declared.ppp.Phase.the-variants.{Dead, Establish, Auth, Network, Open}
 use Rattle.negotiation.specs.declared.ipv4cp.Shown.{Shown}
 use Rattle.negotiation.specs.declared.ipv4cp.Shown.the-variants.{Absent, At}
-use Rattle.negotiation.specs.declared.ppp.Status.{Status}
+use Rattle.phases.specs.declared.ppp.Status.{Status}
 use Rattle.link.specs.Lines.{phaseName, upName, decimal, dotted, addressText, addressLine, addressKey, peerKey, dns1Key, dns2Key, headOf, linesOf, Puts, Shows}
 use Rattle.link.specs.declared.refusal.Refusal.the-variants.{LinesFull}
 use Rattle.link.specs.declared.refusal.Outcome.{Outcome}

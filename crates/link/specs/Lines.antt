@@ -7,12 +7,12 @@ use lib.Dec.{ltb, leb}
 use lib.ListN.{length}
 use lib.Seq.{sets}
 use Rattle.framing.specs.Writer.{over}
-use Rattle.negotiation.specs.Phases.{shownIf}
-use Rattle.negotiation.specs.declared.ppp.Phase.{Phase}
-use Rattle.negotiation.specs.declared.ppp.Phase.the-variants.{Dead, Establish, Auth, Network, Open}
+use Rattle.phases.specs.Phases.{shownIf}
+use Rattle.phases.specs.declared.ppp.Phase.{Phase}
+use Rattle.phases.specs.declared.ppp.Phase.the-variants.{Dead, Establish, Auth, Network, Open}
 use Rattle.negotiation.specs.declared.ipv4cp.Shown.{Shown}
 use Rattle.negotiation.specs.declared.ipv4cp.Shown.the-variants.{Absent, At}
-use Rattle.negotiation.specs.declared.ppp.Status.{Status}
+use Rattle.phases.specs.declared.ppp.Status.{Status}
 use Rattle.link.specs.declared.refusal.Refusal.the-variants.{LinesFull}
 use Rattle.link.specs.declared.refusal.Outcome.{Outcome}
 use Rattle.link.specs.declared.refusal.Outcome.the-variants.{Done, Refused}

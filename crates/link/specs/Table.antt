@@ -14,8 +14,8 @@ use Rattle.framing.specs.declared.frame_reader.Reading.{Reading}
 use Rattle.framing.specs.declared.frame_reader.State.the-variants.{Start, Address, Complete}
 use Rattle.negotiation.specs.declared.lcp.AuthType.the-variants.{None}
 use Rattle.negotiation.specs.declared.pap.PapState.the-variants as papState
-use Rattle.negotiation.specs.declared.ppp.Phase.the-variants.{Dead}
-use Rattle.negotiation.specs.declared.ppp.Ppp.{Ppp}
+use Rattle.phases.specs.declared.ppp.Phase.the-variants.{Dead}
+use Rattle.phases.specs.declared.ppp.Ppp.{Ppp}
 use Rattle.negotiation.specs.declared.states.State.{State}
 use Rattle.negotiation.specs.declared.states.State.the-variants.{Closed, Opened}
 use Rattle.link.specs.declared.pppos.PPPoS.{PPPoS}

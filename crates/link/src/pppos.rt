@@ -3,7 +3,7 @@ ghost use mathlib.Core.Path.{_≡_};
 ghost use Prim.Native.Nat.{_-_, _≤_, _<_};
 ghost use lib.ListN.{length, take, drop};
 ghost use Rattle.framing.specs.Reader.{freshReader};
-ghost use Rattle.negotiation.specs.Phases.{openOf, newOf, statusOf};
+ghost use Rattle.phases.specs.Phases.{openOf, newOf, statusOf};
 ghost use Rattle.link.specs.Frames.{Short};
 ghost use Rattle.link.specs.Link.{linkOf, outcomeOf, framingOutcome, Changes, Consumes, declined, echoedIn, asPoll, writtenAs, replied, isIp, packetPoll, pollLink, Polls, Sends, partOf};
 use crate::frames::put_replies;
@@ -14,9 +14,9 @@ use framing::encode::encode_parts;
 use framing::frame_reader::FrameReader;
 use framing::frame_reader::Got;
 use framing::frame_reader::Reading;
-use negotiation::ppp::Ppp;
-use negotiation::ppp::Status;
-use negotiation::ppp::Turned;
+use phases::ppp::Ppp;
+use phases::ppp::Status;
+use phases::ppp::Turned;
 
 pub struct PPPoS {
     pub frame_reader: FrameReader,

@@ -2,13 +2,13 @@
 ghost use mathlib.Core.Path.{_≡_};
 ghost use Prim.Native.Nat.{_+_, _≤_, _<_};
 ghost use lib.ListN.{length};
-ghost use Rattle.negotiation.specs.Phases.{shownIf};
+ghost use Rattle.phases.specs.Phases.{shownIf};
 ghost use Rattle.link.specs.Lines.{phaseName, upName, decimal, dotted, addressText, addressLine, headOf, linesOf, Puts, Shows};
 use crate::refusal::Outcome;
 use crate::refusal::Refusal;
 use negotiation::ipv4cp::Shown;
-use negotiation::ppp::Phase;
-use negotiation::ppp::Status;
+use phases::ppp::Phase;
+use phases::ppp::Status;
 
 pub struct Written {
     pub outcome: Outcome,

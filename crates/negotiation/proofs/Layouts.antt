@@ -12,11 +12,10 @@ use Rattle.negotiation.specs.declared.pap.Pap.{Pap}
 use Rattle.negotiation.specs.declared.proto.Proto.{Proto}
 use Rattle.negotiation.specs.Rfc1334.{Request}
 use Rattle.negotiation.specs.Rfc1661.{Encapsulated, Packet}
-use Rattle.negotiation.specs.Wire.{packetOf}
+use Rattle.negotiation.specs.Wire.{packetOf, protocolIn}
 use Rattle.negotiation.specs.Proto.{protocolOf}
 use Rattle.negotiation.specs.Automaton.{nextId, echoBytes, lengthField}
 use Rattle.negotiation.specs.Pap.{nameOf, passwordOf, credentialBytes, papBytes}
-use Rattle.negotiation.specs.Phases.{protocolIn}
 use Rattle.negotiation.proofs.Paps.{credentials-short}
 
 -- ---- RFC 1661: packets

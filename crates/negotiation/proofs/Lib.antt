@@ -4,12 +4,10 @@ pub mod Judging
 pub mod Layouts
 pub mod Layouts1332
 pub mod Layouts1661
-pub mod Moves
-pub mod OneAnswer
 pub mod Paps
-pub mod Phasing
 pub mod Proper
 pub mod Replying
+pub mod Sends
 pub mod StateTable
 pub mod Walks
 pub mod Wires

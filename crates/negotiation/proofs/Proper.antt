@@ -13,8 +13,6 @@ use Rattle.laws.specs.Each.{Each}
 use Rattle.laws.proofs.Be.{length-be}
 use Rattle.laws.proofs.Cases.{cond-by, cond-all}
 use Rattle.laws.proofs.Each.{each-append}
-use Rattle.negotiation.specs.declared.ipv4cp.Ipv4cp as ipv4cp
-use Rattle.negotiation.specs.declared.lcp.Lcp as lcp
 use Rattle.negotiation.specs.declared.option_fsm.OptionFsm.{OptionFsm}
 use Rattle.negotiation.specs.declared.options.Reply.{Reply}
 use Rattle.negotiation.specs.declared.proto.Nacked.{Nacked}
@@ -31,8 +29,7 @@ use Rattle.negotiation.specs.Wire.{pktOf, contentOf, packetOf}
 use Rattle.negotiation.specs.Options.{Walk, done, cut, opt, optBytes, sentBack, walkOf}
 use Rattle.negotiation.specs.Proto.{protocolOf, startOf, judgeOf, ownOf, ownNacked, nacksOf}
 use Rattle.negotiation.specs.Reply.{rankOf, freshReply, suggestion, listedOf, stepOf, replyOf, Ready}
-use Rattle.negotiation.specs.Automaton.{ackResends, afterAck, afterTerm, isClosed, isOpened, Turn, turned, refusedTurn, withState, nextId, requestBytes, requested, ackOf, codeOf, replyBytes, afterReply, repliedTurn, unless, reqWith, reqOf, afterNacked, nackWith, nackOf, termAckOf, ignoredTurn, echoBytes, echoOf, actOf, lengthField, handleOf, openedFsm}
-use Rattle.negotiation.specs.Phases.{lcpOr, ipv4cpOr}
+use Rattle.negotiation.specs.Automaton.{ackResends, afterAck, afterTerm, isClosed, isOpened, Turn, turned, refusedTurn, withState, nextId, requestBytes, requested, ackOf, codeOf, replyBytes, afterReply, repliedTurn, unless, reqWith, reqOf, afterNacked, nackWith, nackOf, termAckOf, ignoredTurn, echoBytes, echoOf, actOf, lengthField, handleOf, stepped, rejectBytes, rejectTurn, openedFsm}
 use Rattle.negotiation.proofs.Wires.{tidy-pkt, len-pkt}
 
 abbrev pub isLcp : Proto → Bool
@@ -225,6 +222,12 @@ module _ (f : OptionFsm) where
       cond-all (Proper f) (ltb (length p) 6) proper-ignored
       (cond-all (Proper f) (ltb (length p) (lengthField p + 2)) proper-ignored (proper-act (getD p 2 0) (getD p 3 0) (take (lengthField p + 2) p)))
 
+  pub proper-reject : (p : List ℕ) → Proper f (rejectTurn f p)
+  unfolding rejectTurn
+  proper-reject p =
+      cond-by (Proper f) (ltb 122 (length p)) (λ _. proper-refused ReplyLong)
+      (λ e. proper-one (stepped f) (rejectBytes (f .id) p) refl (omega (arith, length-packet 0xC021 8 (nextId (f .id)) p, ltb-false 122 (length p) e)))
+
   pub proper-opened : Proper f (openedFsm f)
   unfolding openedFsm
   proper-opened = proper-requested (withState f ReqSent) [] refl (omega arith) tt
@@ -232,13 +235,3 @@ module _ (f : OptionFsm) where
   pub opened-one : length (openedFsm f .sent) ≡ 1
   unfolding openedFsm requested
   opened-one = refl
-
--- ---- the record's parts: the other arm is never taken
-
-pub lcp-whole : (p : Proto) (old : lcp.Lcp) → isLcp p ≡ true → Lcp (lcpOr p old) ≡ p
-lcp-whole (Lcp p) old e = refl
-lcp-whole (Ipv4cp p) old e = absurd (false≢true e)
-
-pub ipv4cp-whole : (p : Proto) (old : ipv4cp.Ipv4cp) → isLcp p ≡ false → Ipv4cp (ipv4cpOr p old) ≡ p
-ipv4cp-whole (Lcp p) old e = absurd (true≢false e)
-ipv4cp-whole (Ipv4cp p) old e = refl

@@ -5,12 +5,13 @@ use mathlib.Core.Path.{_≡_, refl, ap, sym, _∙_}
 use mathlib.Core.List.{List, [], _∷_, _++_, map, map-append, append-assoc, append-nil}
 use native.Mathlib.Numerals.{add-one}
 use native.Mathlib.Omega.{arith}
+use borrow.Author.Tests.{le-ltb}
 use lib.ListN.{length, take, set, replicate, getD, length-append, length-map, length-take}
 use lib.Seq.{take-append-seam, set-append-seam, take-suc, take-all}
 use Rattle.laws.proofs.Stores.{seam}
 use Rattle.negotiation.specs.declared.wire.Packet.{Packet}
 use Rattle.negotiation.specs.declared.wire.Replies.{Replies}
-use Rattle.negotiation.specs.Wire.{pktOf, contentOf, Tidy, pushed, Pushed, repliesOf, added}
+use Rattle.negotiation.specs.Wire.{pktOf, contentOf, Tidy, pushed, Pushed, repliesOf, added, joined}
 
 -- a packet holds what it was made of
 pub content-pkt : (l : List ℕ) → contentOf (pktOf l) ≡ l
@@ -80,3 +81,10 @@ add-replies ps l h =
 pub count-replies : (ps : List (List ℕ)) → repliesOf ps .count ≡ length ps
 unfolding repliesOf
 count-replies ps = refl
+
+-- at most one packet behind at most two
+pub join-replies : (ps qs : List (List ℕ)) → length ps ≤ 2 → length qs ≤ 1 → joined (repliesOf ps) (repliesOf qs) ≡ repliesOf (ps ++ qs)
+unfolding repliesOf
+join-replies ps [] h k = rw append-nil refl
+join-replies ps (l ∷ []) h k = rw (le-ltb 2 (length ps) h) (add-replies ps l (omega arith))
+join-replies ps (l ∷ m ∷ qs) h k = absurd (omega arith)

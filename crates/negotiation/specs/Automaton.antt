@@ -220,7 +220,14 @@ handleOf f p =
     (cond (ltb (length p) (lengthField p + 2)) (ignoredTurn f)
     (actOf f (getD p 2 0) (getD p 3 0) (take (lengthField p + 2) p)))
 
--- ---- opening and closing
+-- ---- Protocol-Reject, opening and closing
+
+-- Protocol-Reject steps the id and carries the whole packet
+abbrev pub rejectBytes : ℕ → List ℕ → List ℕ
+rejectBytes i pkt = packetOf 0xC021 8 (nextId i) pkt
+
+unfoldable pub rejectTurn : OptionFsm → List ℕ → Turn
+rejectTurn f pkt = cond (ltb 122 (length pkt)) (refusedTurn f ReplyLong) (turned (stepped f) (rejectBytes (f .id) pkt ∷ []))
 
 -- whatever the state was
 unfoldable pub openedFsm : OptionFsm → Turn

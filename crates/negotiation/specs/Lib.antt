@@ -11,5 +11,3 @@ pub mod Reply
 pub mod Automaton
 pub mod StateTable
 pub mod Pap
-pub mod Phases
-pub mod Moves

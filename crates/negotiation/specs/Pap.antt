@@ -52,6 +52,10 @@ papWith name password =
       bytes = (name ++ password) ++ replicate (120 - length (name ++ password)) 0;
     }
 
+-- above 120 bytes together they are left out
+abbrev pub freshPap : List ℕ → List ℕ → Pap
+freshPap name password = cond (fitsCredentials (length name) (length password)) (papWith name password) (papWith [] [])
+
 -- ---- packets
 
 -- Peer-ID Length, Peer-ID, Passwd-Length, Password

@@ -28,7 +28,7 @@ impl IpOption {
         }
     }
 
-    pub(crate) fn get(self) -> Shown
+    pub fn get(self) -> Shown
         ensures { λ r. ⌜ r ≡ shownIp self ⌝ }
     {
         if self.is_rejected {
@@ -67,7 +67,7 @@ impl IpOption {
     }
 }
 
-pub(crate) fn show(address: u32) -> Shown
+pub fn show(address: u32) -> Shown
     ensures { λ r. ⌜ r ≡ shown address ⌝ }
 {
     if address == 0 {
@@ -95,7 +95,7 @@ const DNS1: u8 = 129;
 const DNS2: u8 = 131;
 
 impl Ipv4cp {
-    pub(crate) fn new() -> Self
+    pub fn new() -> Self
         ensures { λ r. ⌜ r ≡ freshIpv4cp ⌝ }
     {
         Ipv4cp {

@@ -47,7 +47,7 @@ fn same(a: &[u8], b: &[u8]) -> bool
 }
 
 impl Lcp {
-    pub(crate) fn new() -> Self
+    pub fn new() -> Self
         ensures { λ r. ⌜ r ≡ freshLcp ⌝ }
     {
         Lcp {

@@ -4,7 +4,7 @@ ghost use Prim.Native.Nat.{_≤_};
 ghost use lib.ListN.{length};
 ghost use Rattle.negotiation.specs.Wire.{pktOf};
 ghost use Rattle.negotiation.specs.Reply.{Ready};
-ghost use Rattle.negotiation.specs.Automaton.{handled, refusedTurn, withState, requestedIn, ackOf, codeOf, replyBytes, afterReply, reqWith, reqOf, nackWith, nackOf, termAckOf, ignoredTurn, echoBytes, echoOf, actOf, handleOf, openedFsm};
+ghost use Rattle.negotiation.specs.Automaton.{handled, refusedTurn, withState, requestedIn, ackOf, codeOf, replyBytes, afterReply, reqWith, reqOf, nackWith, nackOf, termAckOf, ignoredTurn, echoBytes, echoOf, actOf, handleOf, rejectTurn, openedFsm};
 use crate::options::Reply;
 use crate::options::answer_options;
 use crate::proto::Nacked;
@@ -31,11 +31,14 @@ use crate::wire::CONFIGURE_REQ;
 use crate::wire::DISCARD_REQ;
 use crate::wire::ECHO_REPLY;
 use crate::wire::ECHO_REQ;
+use crate::wire::LCP;
+use crate::wire::PROTOCOL_REJ;
 use crate::wire::Packet;
 use crate::wire::Replies;
 use crate::wire::TERMINATE_ACK;
 use crate::wire::TERMINATE_REQ;
 use crate::wire::be;
+use crate::wire::emit;
 use crate::wire::emit_packet;
 
 pub struct OptionFsm {
@@ -296,7 +299,7 @@ impl OptionFsm {
         self.ignore()
     }
 
-    pub(crate) fn handle(self, p: &[u8]) -> Handled
+    pub fn handle(self, p: &[u8]) -> Handled
         ensures { λ h. ⌜ h ≡ handled (handleOf self (now (p .entry))) ⌝ }
     {
         if p.len() < 6 {
@@ -309,8 +312,30 @@ impl OptionFsm {
         self.act(p[2], p[3], &p[..n])
     }
 
+    // An unknown protocol is rejected in every state; the id steps.
+    pub fn send_protocol_reject(self, pkt: &[u8]) -> Handled
+        ensures { λ h. ⌜ h ≡ handled (rejectTurn self (now (pkt .entry))) ⌝ }
+    {
+        if 122 < pkt.len() {
+            return self.refuse(Refusal::ReplyLong);
+        }
+        let id = std::num::wrapping_add_u8(self.id, 1);
+        let s = self.state;
+        let p = self.proto;
+        Handled {
+            outcome: Outcome::Done,
+            echoed: false,
+            fsm: OptionFsm {
+                id,
+                state: s,
+                proto: p,
+            },
+            replies: Replies::none().add(emit(LCP, PROTOCOL_REJ, id, pkt)),
+        }
+    }
+
     // Whatever the state was.
-    pub(crate) fn open(self) -> Handled
+    pub fn open(self) -> Handled
         ensures { λ h. ⌜ h ≡ handled (openedFsm self) ⌝ }
     {
         self.with_state(State::ReqSent)

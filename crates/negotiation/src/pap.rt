@@ -5,7 +5,7 @@ ghost use Prim.Native.Nat.{_+_, _≤_};
 ghost use lib.ListN.{length};
 ghost use lib.Seq.{sets};
 ghost use Rattle.negotiation.specs.Wire.{pktOf, packetOf};
-ghost use Rattle.negotiation.specs.Pap.{isPapSent, isPapOpened, fitsCredentials, papWith, credentialBytes, papBytes, withPapState, steppedPap, papHandled, papTurned, papRequested, papActOf, papHandleOf, openedPap};
+ghost use Rattle.negotiation.specs.Pap.{isPapSent, isPapOpened, fitsCredentials, papWith, freshPap, credentialBytes, papBytes, withPapState, steppedPap, papHandled, papTurned, papRequested, papActOf, papHandleOf, openedPap};
 use crate::refusal::Outcome;
 use crate::refusal::Refusal;
 use crate::wire::CONFIGURE_ACK;
@@ -47,7 +47,7 @@ fn is_sent(s: PapState) -> bool
     }
 }
 
-pub(crate) fn is_pap_opened(s: PapState) -> bool
+pub fn is_pap_opened(s: PapState) -> bool
     ensures { λ r. ⌜ r ≡ isPapOpened s ⌝ }
 {
     match s {
@@ -57,7 +57,7 @@ pub(crate) fn is_pap_opened(s: PapState) -> bool
     }
 }
 
-pub(crate) fn is_within(n: usize, m: usize) -> bool
+pub fn is_within(n: usize, m: usize) -> bool
     ensures { λ r. ⌜ r ≡ fitsCredentials n m ⌝ }
 {
     if 120 < n {
@@ -67,8 +67,17 @@ pub(crate) fn is_within(n: usize, m: usize) -> bool
 }
 
 impl Pap {
-    // A fresh one; the caller has seen that name and password fit.
-    pub(crate) fn new(username: &[u8], password: &[u8]) -> Self
+    // A fresh one; name and password above 120 bytes together are left out.
+    pub fn new(username: &[u8], password: &[u8]) -> Self
+        ensures { λ r. ⌜ r ≡ freshPap (now (username .entry)) (now (password .entry)) ⌝ }
+    {
+        if is_within(username.len(), password.len()) {
+            return Pap::with(username, password);
+        }
+        Pap::with(&username[..0], &password[..0])
+    }
+
+    fn with(username: &[u8], password: &[u8]) -> Self
         requires { ⌜ length (now username) + length (now password) ≤ 120 ⌝ }
         ensures { λ r. ⌜ r ≡ papWith (now (username .entry)) (now (password .entry)) ⌝ }
     {
@@ -159,7 +168,7 @@ impl Pap {
         self.ignore()
     }
 
-    pub(crate) fn handle(self, p: &[u8]) -> PapHandled
+    pub fn handle(self, p: &[u8]) -> PapHandled
         ensures { λ h. ⌜ h ≡ papHandled (papHandleOf self (now (p .entry))) ⌝ }
     {
         if p.len() < 6 {
@@ -180,13 +189,13 @@ impl Pap {
     }
 
     // Whatever the state was.
-    pub(crate) fn open(self) -> PapHandled
+    pub fn open(self) -> PapHandled
         ensures { λ h. ⌜ h ≡ papHandled (openedPap self) ⌝ }
     {
         self.with_state(PapState::ReqSent).send_configure_request()
     }
 
-    pub(crate) fn close(self) -> Self
+    pub fn close(self) -> Self
         ensures { λ r. ⌜ r ≡ withPapState self PapState.Closed ⌝ }
     {
         self.with_state(PapState::Closed)

@@ -93,7 +93,7 @@ pub(crate) fn after_term(s: State) -> State
     }
 }
 
-pub(crate) fn is_closed(s: State) -> bool
+pub fn is_closed(s: State) -> bool
     ensures { λ r. ⌜ r ≡ isClosed s ⌝ }
 {
     match s {
@@ -105,7 +105,7 @@ pub(crate) fn is_closed(s: State) -> bool
     }
 }
 
-pub(crate) fn is_opened(s: State) -> bool
+pub fn is_opened(s: State) -> bool
     ensures { λ r. ⌜ r ≡ isOpened s ⌝ }
 {
     match s {

@@ -4,7 +4,7 @@ ghost use mathlib.Core.List.{[]};
 ghost use Prim.Native.Nat.{_+_, _≤_, _<_};
 ghost use lib.ListN.{length};
 ghost use Rattle.laws.specs.Be.{beOf, beBytes};
-ghost use Rattle.negotiation.specs.Wire.{pktOf, contentOf, Tidy, pushed, packetOf, Pushed, repliesOf, added};
+ghost use Rattle.negotiation.specs.Wire.{pktOf, contentOf, Tidy, pushed, packetOf, protocolIn, Pushed, repliesOf, added, joined};
 
 pub(crate) const MAX_OPTIONS: usize = 6;
 
@@ -58,6 +58,16 @@ pub(crate) fn be(d: &[u8]) -> u32
         i += 1;
     }
     v
+}
+
+// The protocol number of a packet; one of under two bytes says what it has.
+pub fn protocol_in(pkt: &[u8]) -> u32
+    ensures { λ r. ⌜ r ≡ protocolIn (now (pkt .entry)) ⌝ }
+{
+    if pkt.len() < 2 {
+        return be(pkt);
+    }
+    be(&pkt[..2])
 }
 
 pub struct Packet {
@@ -156,7 +166,7 @@ pub struct Replies {
 }
 
 impl Replies {
-    pub(crate) fn none() -> Self
+    pub fn none() -> Self
         ensures { λ r. ⌜ (r ≡ repliesOf []) × (r .count ≡ 0) ⌝ }
     {
         let p = Packet::blank();
@@ -175,5 +185,20 @@ impl Replies {
         r.packets[at] = p;
         r.count = at + 1;
         r
+    }
+
+    // The first packet of b behind these; a full record stays.
+    pub fn join(self, b: Replies) -> Self
+        ensures { λ r. ⌜ r ≡ joined self b ⌝ }
+    {
+        if b.count == 0 {
+            return self;
+        }
+        if 2 < self.count {
+            return self;
+        }
+        let ps = b.packets;
+        let p = ps[0];
+        self.add(p)
     }
 }

@@ -11,11 +11,11 @@ use crate::show::small;
 use crate::show::text;
 use crate::show::word;
 use negotiation::ipv4cp::Shown;
-use negotiation::ppp::LcpFsm;
-use negotiation::ppp::Ppp;
 use negotiation::refusal::Outcome;
 use negotiation::refusal::Refusal;
 use negotiation::refusal::number;
+use phases::ppp::LcpFsm;
+use phases::ppp::Ppp;
 
 fn refused(r: Refusal) {
     text(b"refuse ");

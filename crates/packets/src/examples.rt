@@ -5,7 +5,7 @@ use crate::calls::establish_pap;
 use crate::calls::status;
 use crate::calls::turn;
 use crate::show::text;
-use negotiation::ppp::Ppp;
+use phases::ppp::Ppp;
 
 fn without_auth() {
     text(b"# Without authentication: K7 in the poll, K11, K10, K9\n");

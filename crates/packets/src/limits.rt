@@ -7,7 +7,7 @@ use crate::calls::establish_pap;
 use crate::calls::turn;
 use crate::show::front;
 use crate::show::text;
-use negotiation::ppp::Ppp;
+use phases::ppp::Ppp;
 
 fn byte_at(head: &[u8], i: usize) -> u8 {
     if i < head.len() {

@@ -10,11 +10,11 @@ use negotiation::lcp::AuthType;
 use negotiation::lcp::Lcp;
 use negotiation::pap::Pap;
 use negotiation::pap::PapState;
-use negotiation::ppp::Ipv4cpFsm;
-use negotiation::ppp::LcpFsm;
-use negotiation::ppp::Phase;
-use negotiation::ppp::Ppp;
 use negotiation::states::State;
+use phases::ppp::Ipv4cpFsm;
+use phases::ppp::LcpFsm;
+use phases::ppp::Phase;
+use phases::ppp::Ppp;
 
 pub(crate) fn phase(f: Phase) {
     match f {

@@ -6,7 +6,7 @@ use crate::calls::establish_pap;
 use crate::calls::open;
 use crate::calls::turn;
 use crate::show::text;
-use negotiation::ppp::Ppp;
+use phases::ppp::Ppp;
 
 fn short_packets(p: Ppp) -> Ppp {
     let p = turn(b"no byte", p, b"");

@@ -13,10 +13,10 @@ use negotiation::lcp::AuthType;
 use negotiation::lcp::Lcp;
 use negotiation::pap::Pap;
 use negotiation::pap::PapState;
-use negotiation::ppp::Ipv4cpFsm;
-use negotiation::ppp::LcpFsm;
-use negotiation::ppp::Phase;
 use negotiation::states::State;
+use phases::ppp::Ipv4cpFsm;
+use phases::ppp::LcpFsm;
+use phases::ppp::Phase;
 
 fn phase(out: &mut [u8], at: usize, p: Phase) -> usize {
     match p {
@@ -112,7 +112,7 @@ fn pap(out: &mut [u8], at: usize, p: Pap) -> usize {
     number(out, at, wide(p.id))
 }
 
-fn negotiated(out: &mut [u8], at: usize, p: negotiation::ppp::Ppp) -> usize {
+fn negotiated(out: &mut [u8], at: usize, p: phases::ppp::Ppp) -> usize {
     let f = p.phase;
     let l = p.lcp;
     let i = p.ipv4cp;

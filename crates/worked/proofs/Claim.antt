@@ -15,7 +15,7 @@ use Rattle.negotiation.specs.Wire as wire
 use Rattle.negotiation.specs.Options as options
 use Rattle.negotiation.specs.Reply as reply
 use Rattle.negotiation.specs.Automaton as fsm
-use Rattle.negotiation.specs.Phases as phases
+use Rattle.phases.specs.Phases as phases
 use Rattle.link.specs.Frames as frames
 use Rattle.link.specs.Link as link
 use Rattle.worked.specs.Table.{Row, table}

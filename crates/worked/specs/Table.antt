@@ -11,9 +11,9 @@ use Rattle.framing.specs.declared.frame_reader.Reading.the-variants.{Crate, Sta
 use Rattle.negotiation.specs.Refusal.{outcomeNumber}
 use Rattle.negotiation.specs.Pap.{papWith, papBytes}
 use Rattle.negotiation.specs.Automaton.{requestBytes}
-use Rattle.negotiation.specs.Phases.{freshPpp, ipv4cpIn, pollOf, turnOf, openOf, PppTurn}
+use Rattle.phases.specs.Phases.{freshPpp, ipv4cpIn, pollOf, turnOf, openOf, PppTurn}
 use Rattle.negotiation.specs.declared.states.State as fsm
-use Rattle.negotiation.specs.declared.ppp.Ppp.{Ppp}
+use Rattle.phases.specs.declared.ppp.Ppp.{Ppp}
 use Rattle.link.specs.Link.{Poll, newLink, openLink, pollLink, actionNumber}
 use Rattle.link.specs.declared.pppos.PPPoSAction.{PPPoSAction}
 use Rattle.link.specs.declared.pppos.PPPoSAction.the-variants.{Idle, Received, Transmit, Declined}

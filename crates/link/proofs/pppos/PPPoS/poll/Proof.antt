@@ -1,8 +1,8 @@
 use mathlib.Core.Path.{sym, ap₂, _∙_}
 use native.Mathlib.Omega.{arith}
 use Rattle.link.proofs.Polling.{polled, polls-of, replied-answered, turns-short, got-packet, poll-short, poll-nothing, poll-refused, poll-packet}
-use Rattle.negotiation.specs.Phases.{pollOf}
-use Rattle.negotiation.proofs.Phasing.{poll-sends}
+use Rattle.phases.specs.Phases.{pollOf}
+use Rattle.phases.proofs.Phasing.{poll-sends}
 use Rattle.link.specs.declared.pppos.PPPoS.{PPPoS}
 use Rattle.link.specs.declared.pppos.PPPoSAction.{PPPoSAction}
 use borrow.Author.Needs.{needs}

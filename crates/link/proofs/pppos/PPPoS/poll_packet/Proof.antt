@@ -2,8 +2,8 @@ use mathlib.Core.Path.{sym, ap, _∙_}
 use Rattle.link.proofs.Polling.{polled, replied-answered, turns-short, packet-ip, packet-turn}
 use Prim.Native.Nat.{_-_}
 use lib.ListN.{take, drop}
-use Rattle.negotiation.specs.Phases.{turnOf}
-use Rattle.negotiation.proofs.Phasing.{turn-sends}
+use Rattle.phases.specs.Phases.{turnOf}
+use Rattle.phases.proofs.Phasing.{turn-sends}
 use Rattle.link.specs.declared.pppos.PPPoS.{PPPoS}
 use Rattle.link.specs.declared.pppos.PPPoSAction.the-variants.{Received}
 use borrow.Author.Needs.{needs}

@@ -1,19 +1,47 @@
-use mathlib.Core.Path.{refl}
+use mathlib.Core.Path.{_≡_, sym, _∙_}
+use mathlib.Core.Bool.{true, false}
 use borrow.Author.Needs.{needs}
-use Rattle.negotiation.proofs.Paps.{placed}
+use lib.ListN.{length}
+use Rattle.negotiation.specs.Pap.{fitsCredentials}
+use Rattle.negotiation.proofs.Paps.{fits-sum}
 use Rattle.negotiation.proofs.pap.Pap.new.Statement.{statement}
 use Rattle.negotiation.proofs.pap.Pap.new.Tie as tie
 
-place-requires : tie.Need-place-requires
-place-requires c κs = search needs
+fits : (c : tie.Then1) → fitsCredentials (length (c .before .before .before .before .args .username .now)) (length (c .before .before .before .before .args .password .now)) ≡ true
+fits c = sym (c .before .is-within .ensures) ∙ c .if1 .taken
 
-place-requires-2 : tie.Need-place-requires-2
-place-requires-2 c κs = search needs
+long : (c : tie.Else1) → fitsCredentials (length (c .before .before .before .before .args .username .now)) (length (c .before .before .before .before .args .password .now)) ≡ false
+long c = sym (c .before .is-within .ensures) ∙ c .if1 .left
+
+is-within-requires : tie.Need-is-within-requires
+is-within-requires c κs = search needs
+
+with-requires : tie.Need-with-requires
+with-requires c κs = fits-sum _ _ (fits c)
 
 returns : tie.Need-returns
-returns c =
-    let a = c .before .before .before .before .args in
-    rw (c .place2 .ensures, c .before .place .ensures, placed (a .username .now) (a .password .now) (c .before .before .before .before .pre)) refl
+returns c = rw (fits (c .before)) (c .with .ensures)
+
+slice-aggregate-with : tie.Need-slice-aggregate-with
+slice-aggregate-with c = search needs
+
+slice-aggregate-with-2 : tie.Need-slice-aggregate-with-2
+slice-aggregate-with-2 c = search needs
+
+with-requires-2 : tie.Need-with-requires-2
+with-requires-2 c κs = search needs
+
+returns-2 : tie.Need-returns-2
+returns-2 c = rw (long (c .before .before .before)) (c .with2 .ensures)
 
 pub new-spec : {M : Type 1} → statement M
-new-spec = tie.close (tie.spec place-requires place-requires-2 returns)
+new-spec =
+    tie.close
+    (tie.spec
+    is-within-requires
+    with-requires
+    returns
+    slice-aggregate-with
+    slice-aggregate-with-2
+    with-requires-2
+    returns-2)

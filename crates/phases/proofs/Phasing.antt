@@ -1,0 +1,132 @@
+-- Laws of the link's phases: how much a call sends, and what a refusal leaves.
+-- Assumes nothing.
+use mathlib.Core.Path.{_≡_, refl, ap, sym, _∙_}
+use mathlib.Core.Bool.{true, false, true≢false, false≢true}
+use mathlib.Core.List.{List, [], _++_}
+use Prim.Native.Nat.{ℕ, _≤_}
+use lib.Dec.{ltb, eqb}
+use lib.ListN.{length}
+use Rattle.laws.proofs.Cases.{cond-all}
+use Rattle.negotiation.specs.declared.refusal.Refusal.{Refusal}
+use Rattle.negotiation.specs.declared.refusal.Outcome.the-variants.{Done, Refused}
+use Rattle.negotiation.specs.declared.lcp.AuthType.{AuthType}
+use Rattle.negotiation.specs.declared.lcp.AuthType.the-variants.{None}
+use Rattle.negotiation.specs.declared.lcp.AuthType.the-variants as auth
+use Rattle.negotiation.specs.declared.lcp.Lcp as lcp
+use Rattle.negotiation.specs.declared.ipv4cp.Ipv4cp as ipv4cp
+use Rattle.negotiation.specs.declared.proto.Proto.{Proto}
+use Rattle.negotiation.specs.declared.proto.Proto.the-variants as proto
+use Rattle.negotiation.specs.declared.wire.Replies.{Replies}
+use Rattle.negotiation.specs.Refusal.{isDone}
+use Rattle.negotiation.specs.Wire.{protocolIn, joined}
+use Rattle.negotiation.specs.Automaton.{isClosed, isOpened}
+use Rattle.negotiation.specs.Pap.{isPapOpened}
+use Rattle.negotiation.proofs.Wires.{join-replies}
+use Rattle.negotiation.proofs.Proper.{isLcp}
+use Rattle.negotiation.proofs.Sends.{Sends, sends-none, sends-both, handle-sends, reject-sends, opened-sends, pap-sends, pap-opened-sends}
+use Rattle.phases.specs.declared.ppp.Phase.{Phase}
+use Rattle.phases.specs.declared.ppp.Phase.the-variants.{Dead, Establish, Auth, Network, Open}
+use Rattle.phases.specs.declared.ppp.Ppp.{Ppp}
+use Rattle.phases.specs.declared.ppp.Turned.{Turned}
+use Rattle.phases.specs.declared.phase.Stepped.{Stepped}
+use Rattle.phases.specs.Phases.{lcpIn, lcpOr, ipv4cpIn, ipv4cpOr, PppTurn, Step, pppRefused, rejectOf, receivedOf, byAuth, establishOf, authOf, networkOf, byPhase, phaseOf, pollOf, turnOf, isDead, openOf, turnedAs, steppedAs, Turns}
+
+-- ---- a turn, by its outcome
+
+module _ (p : Ppp) (pkt : List ℕ) where
+  pub turn-refused : {why : Refusal} → receivedOf p pkt .outcome ≡ Refused why → turnOf p pkt ≡ pppRefused p why
+  unfolding turnOf
+  turn-refused e = rw e refl
+
+  pub turn-done : receivedOf p pkt .outcome ≡ Done
+      → turnOf p pkt
+      ≡ record {
+        outcome = Done;
+        echoed = receivedOf p pkt .echoed;
+        ppp = phaseOf (receivedOf p pkt .ppp) .ppp;
+        sent = receivedOf p pkt .sent ++ phaseOf (receivedOf p pkt .ppp) .sent;
+      }
+  unfolding turnOf
+  turn-done e = rw e refl
+
+-- ---- what a call sends
+
+pub received-sends : (p : Ppp) (pkt : List ℕ) → Sends 2 (receivedOf p pkt .sent)
+unfolding receivedOf rejectOf
+received-sends p pkt =
+    let P : PppTurn → Type 0 = λ t. Sends 2 (t .sent) in
+    let n = protocolIn pkt in
+    cond-all P (ltb (length pkt) 2) (sends-none 2)
+    (cond-all P (eqb n 0xC021) (handle-sends (lcpIn (p .lcp)) pkt)
+    (cond-all P (eqb n 0xC023) (pap-sends (p .pap) pkt)
+    (cond-all P (eqb n 0x0021) (sends-none 2)
+    (cond-all P (eqb n 0x8021) (handle-sends (ipv4cpIn (p .ipv4cp)) pkt)
+    (reject-sends (lcpIn (p .lcp)) pkt)))))
+
+auth-sends : (a : AuthType) (p : Ppp) → Sends 1 (byAuth a p .sent)
+auth-sends None p = opened-sends (ipv4cpIn (p .ipv4cp))
+auth-sends auth.Pap p = pap-opened-sends (p .pap)
+
+by-phase-sends : (f : Phase) (p : Ppp) → Sends 1 (byPhase f p .sent)
+unfolding establishOf authOf networkOf
+by-phase-sends Dead p = sends-none 1
+by-phase-sends Establish p =
+    let P : Step → Type 0 = λ s. Sends 1 (s .sent) in
+    cond-all P (isClosed (p .lcp .state)) (opened-sends (lcpIn (p .lcp)))
+    (cond-all P (isOpened (p .lcp .state)) (auth-sends (p .lcp .proto .auth) p) (sends-none 1))
+by-phase-sends Auth p =
+    cond-all (λ (s : Step). Sends 1 (s .sent)) (isPapOpened (p .pap .state)) (opened-sends (ipv4cpIn (p .ipv4cp))) (sends-none 1)
+by-phase-sends Network p = sends-none 1
+by-phase-sends Open p = sends-none 1
+
+pub phase-sends : (p : Ppp) → Sends 1 (phaseOf p .sent)
+unfolding phaseOf
+phase-sends p = by-phase-sends (p .phase) p
+
+pub poll-sends : (p : Ppp) → Sends 1 (pollOf p .sent)
+poll-sends = phase-sends
+
+pub turn-sends : (p : Ppp) (pkt : List ℕ) → Sends 3 (turnOf p pkt .sent)
+unfolding turnOf
+turn-sends p pkt =
+    let t = receivedOf p pkt in
+    cond-all (λ (x : PppTurn). Sends 3 (x .sent)) (isDone (t .outcome))
+    (sends-both (t .sent) (phaseOf (t .ppp) .sent) (received-sends p pkt) (phase-sends (t .ppp))) (sends-none 3)
+
+-- ---- a refusal
+
+abbrev pub Left : Ppp → PppTurn → Type 0
+Left p t = isDone (t .outcome) ≡ false → (t .ppp ≡ p) × (t .sent ≡ []) × (t .echoed ≡ false)
+
+-- a refused packet leaves the record, sends nothing and marks nothing
+pub turn-left : (p : Ppp) (pkt : List ℕ) → Left p (turnOf p pkt)
+unfolding turnOf
+turn-left p pkt = cond-all (Left p) (isDone (receivedOf p pkt .outcome)) (λ e. absurd (true≢false e)) (λ e. (refl, refl, refl))
+
+pub open-left : (p : Ppp) → Left p (openOf p)
+open-left p = cond-all (Left p) (isDead (p .phase)) (λ e. absurd (true≢false e)) (λ e. (refl, refl, refl))
+
+-- ---- a turn as the code puts it together
+
+module _ (p : Ppp) (pkt : List ℕ) {t : Turned} (et : t ≡ turnedAs (receivedOf p pkt)) where
+  pub turns-refused : {why : Refusal} {r : Turned} → t .outcome ≡ Refused why → r ≡ turnedAs (pppRefused p why)
+      → Turns (turnOf p pkt) (r .outcome) (r .echoed) (r .ppp) (r .replies)
+  turns-refused eo er =
+      rw (turn-refused p pkt (sym (ap (λ (x : Turned). x .outcome) et) ∙ eo), er) (record { outcome = refl; echoed = refl; ppp = refl; replies = refl })
+
+  pub turns-done : {s : Stepped} {rs : Replies} → t .outcome ≡ Done → s ≡ steppedAs (phaseOf (t .ppp)) → rs ≡ joined (t .replies) (s .replies)
+      → Turns (turnOf p pkt) Done (t .echoed) (s .ppp) rs
+  turns-done {s} eo es er =
+      let e : s ≡ steppedAs (phaseOf (receivedOf p pkt .ppp)) = es ∙ ap (λ (x : Turned). steppedAs (phaseOf (x .ppp))) et in
+      rw (turn-done p pkt (sym (ap (λ (x : Turned). x .outcome) et) ∙ eo), er, e, et)
+      (record { outcome = refl; echoed = refl; ppp = refl; replies = join-replies (receivedOf p pkt .sent) _ (received-sends p pkt .few) (phase-sends _ .few) })
+
+-- ---- the record's parts: the other arm is never taken
+
+pub lcp-whole : (p : Proto) (old : lcp.Lcp) → isLcp p ≡ true → proto.Lcp (lcpOr p old) ≡ p
+lcp-whole (proto.Lcp p) old e = refl
+lcp-whole (proto.Ipv4cp p) old e = absurd (false≢true e)
+
+pub ipv4cp-whole : (p : Proto) (old : ipv4cp.Ipv4cp) → isLcp p ≡ false → proto.Ipv4cp (ipv4cpOr p old) ≡ p
+ipv4cp-whole (proto.Lcp p) old e = absurd (true≢false e)
+ipv4cp-whole (proto.Ipv4cp p) old e = refl

@@ -1,0 +1,258 @@
+-- The link's phases (document 01, 'Negotiation'; ppp/mod.rs): a received packet, one phase step, and what shows of the state.
+use mathlib.Core.Path.{_≡_}
+use mathlib.Core.Bool.{Bool, true, false, cond, not, _&&_}
+use mathlib.Core.List.{List, [], _∷_, _++_}
+use Prim.Native.Nat.{ℕ, _+_}
+use lib.Dec.{ltb, eqb}
+use lib.ListN.{length}
+use Rattle.negotiation.specs.Refusal.{isDone}
+use Rattle.negotiation.specs.Wire.{protocolIn, repliesOf}
+use Rattle.negotiation.specs.Lcp.{freshLcp}
+use Rattle.negotiation.specs.Ipv4cp.{freshIpv4cp, shown, shownIp}
+use Rattle.negotiation.specs.Automaton.{isClosed, isOpened, Turn, handleOf, rejectTurn, openedFsm}
+use Rattle.negotiation.specs.Pap.{isPapOpened, fitsCredentials, papWith, withPapState, PapTurn, papHandleOf, openedPap}
+use Rattle.negotiation.specs.declared.refusal.Refusal.{Refusal}
+use Rattle.negotiation.specs.declared.refusal.Refusal.the-variants.{NotDead, CredentialsLong, PacketShort}
+use Rattle.negotiation.specs.declared.refusal.Outcome.{Outcome}
+use Rattle.negotiation.specs.declared.refusal.Outcome.the-variants.{Done, Refused}
+use Rattle.negotiation.specs.declared.wire.Replies.{Replies}
+use Rattle.negotiation.specs.declared.proto.Proto.{Proto}
+use Rattle.negotiation.specs.declared.proto.Proto.the-variants as proto
+use Rattle.negotiation.specs.declared.lcp.Lcp.{Lcp}
+use Rattle.negotiation.specs.declared.lcp.AuthType.{AuthType}
+use Rattle.negotiation.specs.declared.lcp.AuthType.the-variants.{None, Pap}
+use Rattle.negotiation.specs.declared.ipv4cp.Ipv4cp.{Ipv4cp}
+use Rattle.negotiation.specs.declared.ipv4cp.Shown.{Shown}
+use Rattle.negotiation.specs.declared.ipv4cp.Shown.the-variants.{Absent}
+use Rattle.negotiation.specs.declared.states.State.the-variants.{Closed}
+use Rattle.negotiation.specs.declared.option_fsm.OptionFsm.{OptionFsm}
+use Rattle.negotiation.specs.declared.pap.Pap as pap
+use Rattle.negotiation.specs.declared.pap.PapState.the-variants as papState
+use Rattle.phases.specs.declared.ppp.Phase.{Phase}
+use Rattle.phases.specs.declared.ppp.Phase.the-variants.{Dead, Establish, Auth, Network, Open}
+use Rattle.phases.specs.declared.ppp.LcpFsm.{LcpFsm}
+use Rattle.phases.specs.declared.ppp.Ipv4cpFsm.{Ipv4cpFsm}
+use Rattle.phases.specs.declared.ppp.Ppp.{Ppp}
+use Rattle.phases.specs.declared.ppp.Status.{Status}
+use Rattle.phases.specs.declared.phase.Stepped.{Stepped}
+use Rattle.phases.specs.declared.ppp.Turned.{Turned}
+
+-- ---- the record
+
+abbrev pub freshWith : pap.Pap → Ppp
+freshWith a =
+    record {
+      phase = Dead;
+      opening = false;
+      lcp = record { id = 1; state = Closed; proto = freshLcp };
+      pap = a;
+      ipv4cp = record { id = 1; state = Closed; proto = freshIpv4cp };
+    }
+
+abbrev pub freshPpp : List ℕ → List ℕ → Ppp
+freshPpp name password = freshWith (papWith name password)
+
+abbrev pub withPhase : Ppp → Phase → Ppp
+withPhase p f = record { phase = f; opening = p .opening; lcp = p .lcp; pap = p .pap; ipv4cp = p .ipv4cp }
+
+abbrev pub withOpening : Ppp → Bool → Ppp
+withOpening p o = record { phase = p .phase; opening = o; lcp = p .lcp; pap = p .pap; ipv4cp = p .ipv4cp }
+
+abbrev pub withLcp : Ppp → LcpFsm → Ppp
+withLcp p a = record { phase = p .phase; opening = p .opening; lcp = a; pap = p .pap; ipv4cp = p .ipv4cp }
+
+abbrev pub withPap : Ppp → pap.Pap → Ppp
+withPap p a = record { phase = p .phase; opening = p .opening; lcp = p .lcp; pap = a; ipv4cp = p .ipv4cp }
+
+abbrev pub withIpv4cp : Ppp → Ipv4cpFsm → Ppp
+withIpv4cp p a = record { phase = p .phase; opening = p .opening; lcp = p .lcp; pap = p .pap; ipv4cp = a }
+
+-- an automaton for the step, and back
+abbrev pub lcpIn : LcpFsm → OptionFsm
+lcpIn a = record { id = a .id; state = a .state; proto = proto.Lcp (a .proto) }
+
+abbrev pub lcpOr : Proto → Lcp → Lcp
+lcpOr (proto.Lcp p) q = p
+lcpOr (proto.Ipv4cp p) q = q
+
+abbrev pub lcpOut : OptionFsm → LcpFsm → LcpFsm
+lcpOut f a = record { id = f .id; state = f .state; proto = lcpOr (f .proto) (a .proto) }
+
+abbrev pub ipv4cpIn : Ipv4cpFsm → OptionFsm
+ipv4cpIn a = record { id = a .id; state = a .state; proto = proto.Ipv4cp (a .proto) }
+
+abbrev pub ipv4cpOr : Proto → Ipv4cp → Ipv4cp
+ipv4cpOr (proto.Lcp p) q = q
+ipv4cpOr (proto.Ipv4cp p) q = p
+
+abbrev pub ipv4cpOut : OptionFsm → Ipv4cpFsm → Ipv4cpFsm
+ipv4cpOut f a = record { id = f .id; state = f .state; proto = ipv4cpOr (f .proto) (a .proto) }
+
+-- ---- what a call leaves
+
+-- the outcome, whether the packet's code becomes 10, the record, and the packets sent, in order
+pub record PppTurn : Type 0 where
+  pub outcome : Outcome
+  pub echoed : Bool
+  pub ppp : Ppp
+  pub sent : List (List ℕ)
+
+abbrev pub pppTurned : Ppp → List (List ℕ) → PppTurn
+pppTurned p ps = record { outcome = Done; echoed = false; ppp = p; sent = ps }
+
+abbrev pub pppRefused : Ppp → Refusal → PppTurn
+pppRefused p why = record { outcome = Refused why; echoed = false; ppp = p; sent = [] }
+
+-- ---- a received packet, by its protocol
+
+abbrev pub lcpTurn : Ppp → Turn → PppTurn
+lcpTurn p t = record { outcome = t .outcome; echoed = t .echoed; ppp = withLcp p (lcpOut (t .fsm) (p .lcp)); sent = t .sent }
+
+abbrev pub ipv4cpTurn : Ppp → Turn → PppTurn
+ipv4cpTurn p t = record { outcome = t .outcome; echoed = t .echoed; ppp = withIpv4cp p (ipv4cpOut (t .fsm) (p .ipv4cp)); sent = t .sent }
+
+abbrev pub papTurn : Ppp → PapTurn → PppTurn
+papTurn p t = record { outcome = t .outcome; echoed = false; ppp = withPap p (t .pap); sent = t .sent }
+
+-- Protocol-Reject goes out under LCP's id, in every phase
+unfoldable pub rejectOf : Ppp → List ℕ → PppTurn
+rejectOf p pkt = lcpTurn p (rejectTurn (lcpIn (p .lcp)) pkt)
+
+-- an IPv4 packet is the link's to hand out, and changes nothing here
+unfoldable pub receivedOf : Ppp → List ℕ → PppTurn
+receivedOf p pkt =
+    cond (ltb (length pkt) 2) (pppRefused p PacketShort)
+    (cond (eqb (protocolIn pkt) 0xC021) (lcpTurn p (handleOf (lcpIn (p .lcp)) pkt))
+    (cond (eqb (protocolIn pkt) 0xC023) (papTurn p (papHandleOf (p .pap) pkt))
+    (cond (eqb (protocolIn pkt) 0x0021) (pppTurned p [])
+    (cond (eqb (protocolIn pkt) 0x8021) (ipv4cpTurn p (handleOf (ipv4cpIn (p .ipv4cp)) pkt))
+    (rejectOf p pkt)))))
+
+-- ---- one phase step
+
+-- the record, and what it sends
+pub record Step : Type 0 where
+  pub ppp : Ppp
+  pub sent : List (List ℕ)
+
+abbrev pub stepTo : Ppp → List (List ℕ) → Step
+stepTo p ps = record { ppp = p; sent = ps }
+
+abbrev pub opensLcp : Ppp → Step
+opensLcp p =
+    stepTo (withOpening (withLcp p (lcpOut (openedFsm (lcpIn (p .lcp)) .fsm) (p .lcp))) false)
+    (openedFsm (lcpIn (p .lcp)) .sent)
+
+abbrev pub opensIpv4cp : Ppp → Step
+opensIpv4cp p =
+    stepTo (withPhase (withIpv4cp p (ipv4cpOut (openedFsm (ipv4cpIn (p .ipv4cp)) .fsm) (p .ipv4cp))) Network)
+    (openedFsm (ipv4cpIn (p .ipv4cp)) .sent)
+
+abbrev pub opensPap : Ppp → Step
+opensPap p = stepTo (withPhase (withPap p (openedPap (p .pap) .pap)) Auth) (openedPap (p .pap) .sent)
+
+abbrev pub closesIpv4cp : Ppp → Ppp
+closesIpv4cp p = withIpv4cp p (record { id = p .ipv4cp .id; state = Closed; proto = p .ipv4cp .proto })
+
+abbrev pub closesPap : Ppp → Ppp
+closesPap p = withPap p (withPapState (p .pap) papState.Closed)
+
+abbrev pub byAuth : AuthType → Ppp → Step
+byAuth None p = opensIpv4cp p
+byAuth Pap p = opensPap p
+
+-- an LCP that is Closed is opened, so it is not Opened in the same step
+unfoldable pub establishOf : Ppp → Step
+establishOf p =
+    cond (isClosed (p .lcp .state)) (stepTo (closesIpv4cp (closesPap (opensLcp p .ppp))) (opensLcp p .sent))
+    (cond (isOpened (p .lcp .state)) (byAuth (p .lcp .proto .auth) p)
+    (stepTo (closesIpv4cp (closesPap p)) []))
+
+unfoldable pub authOf : Ppp → Step
+authOf p = cond (isPapOpened (p .pap .state)) (opensIpv4cp p) (stepTo (closesIpv4cp p) [])
+
+unfoldable pub networkOf : Ppp → Step
+networkOf p = stepTo (cond (isOpened (p .ipv4cp .state)) (withPhase p Open) p) []
+
+abbrev pub byPhase : Phase → Ppp → Step
+byPhase Dead p = stepTo p []
+byPhase Establish p = establishOf p
+byPhase Auth p = authOf p
+byPhase Network p = networkOf p
+byPhase Open p = stepTo p []
+
+-- where LCP is Closed and is not being opened, the link is dead
+abbrev pub settled : Ppp → Ppp
+settled p = cond (isClosed (p .lcp .state) && not (p .opening)) (withPhase p Dead) p
+
+unfoldable pub phaseOf : Ppp → Step
+phaseOf p = stepTo (settled (byPhase (p .phase) p .ppp)) (byPhase (p .phase) p .sent)
+
+-- ---- the calls
+
+abbrev pub pollOf : Ppp → PppTurn
+pollOf p = pppTurned (phaseOf p .ppp) (phaseOf p .sent)
+
+abbrev pub thenPhase : Ppp → PppTurn → PppTurn
+thenPhase p t =
+    cond (isDone (t .outcome))
+    (record { outcome = Done; echoed = t .echoed; ppp = phaseOf (t .ppp) .ppp; sent = t .sent ++ phaseOf (t .ppp) .sent })
+    (record { outcome = t .outcome; echoed = false; ppp = p; sent = [] })
+
+-- one received packet, then one phase step; a refusal leaves all as it was
+unfoldable pub turnOf : Ppp → List ℕ → PppTurn
+turnOf p pkt = thenPhase p (receivedOf p pkt)
+
+abbrev pub isDead : Phase → Bool
+isDead Dead = true
+isDead Establish = false
+isDead Auth = false
+isDead Network = false
+isDead Open = false
+
+abbrev pub openOf : Ppp → PppTurn
+openOf p = cond (isDead (p .phase)) (pppTurned (withOpening (withPhase p Establish) true) []) (pppRefused p NotDead)
+
+-- credentials above 120 bytes together: a fresh record with both empty
+abbrev pub newOf : List ℕ → List ℕ → PppTurn
+newOf name password =
+    cond (fitsCredentials (length name) (length password))
+    (pppTurned (freshPpp name password) [])
+    (pppRefused (freshPpp [] []) CredentialsLong)
+
+-- what shows: the addresses only where IPv4CP is Opened
+abbrev pub shownIf : Bool → Shown → Shown
+shownIf up a = cond up a Absent
+
+abbrev pub statusOf : Ppp → Status
+statusOf p =
+    record {
+      phase = p .phase;
+      up = isOpened (p .ipv4cp .state);
+      address = shownIf (isOpened (p .ipv4cp .state)) (shownIp (p .ipv4cp .proto .address));
+      «peer_address» = shownIf (isOpened (p .ipv4cp .state)) (shown (p .ipv4cp .proto .«peer_address»));
+      «dns_server_1» = shownIf (isOpened (p .ipv4cp .state)) (shownIp (p .ipv4cp .proto .«dns_server_1»));
+      «dns_server_2» = shownIf (isOpened (p .ipv4cp .state)) (shownIp (p .ipv4cp .proto .«dns_server_2»));
+    }
+
+-- ---- as the code holds it
+
+abbrev pub turnedAs : PppTurn → Turned
+turnedAs t = record { outcome = t .outcome; echoed = t .echoed; ppp = t .ppp; replies = repliesOf (t .sent) }
+
+abbrev pub steppedAs : Step → Stepped
+steppedAs s = record { ppp = s .ppp; replies = repliesOf (s .sent) }
+
+-- ---- what the calls promise
+
+-- a call that changes the record: its outcome and the record
+pub record Changes (t : PppTurn) (o : Outcome) (p : Ppp) : Type 0 where
+  pub outcome : o ≡ t .outcome
+  pub ppp : p ≡ t .ppp
+
+-- a call that may send: also whether an echo was answered, and the packets
+pub record Turns (t : PppTurn) (o : Outcome) (e : Bool) (p : Ppp) (rs : Replies) : Type 0 where
+  pub outcome : o ≡ t .outcome
+  pub echoed : e ≡ t .echoed
+  pub ppp : p ≡ t .ppp
+  pub replies : rs ≡ repliesOf (t .sent)

@@ -1,0 +1,315 @@
+// The link's phases: packets go to LCP, PAP or IPv4CP, and each call takes one phase step.
+ghost use mathlib.Core.Path.{_≡_};
+ghost use Rattle.negotiation.specs.Automaton.{handleOf};
+ghost use Rattle.negotiation.specs.Pap.{papHandleOf};
+ghost use Rattle.phases.specs.Phases.{freshWith, lcpIn, ipv4cpIn, pppRefused, lcpTurn, papTurn, ipv4cpTurn, rejectOf, receivedOf, isDead, pollOf, turnOf, openOf, newOf, statusOf, turnedAs, Changes, Turns};
+use crate::slots::ipv4cp_in;
+use crate::slots::ipv4cp_out;
+use crate::slots::lcp_in;
+use crate::slots::lcp_out;
+use negotiation::ipv4cp::Ipv4cp;
+use negotiation::ipv4cp::Shown;
+use negotiation::ipv4cp::show;
+use negotiation::lcp::Lcp;
+use negotiation::pap::Pap;
+use negotiation::pap::is_within;
+use negotiation::refusal::Outcome;
+use negotiation::refusal::Refusal;
+use negotiation::states::State;
+use negotiation::states::is_opened;
+use negotiation::wire::IPV4;
+use negotiation::wire::IPV4CP;
+use negotiation::wire::LCP;
+use negotiation::wire::PAP;
+use negotiation::wire::Replies;
+use negotiation::wire::protocol_in;
+
+pub enum Phase {
+    Dead,
+    Establish,
+    Auth,
+    Network,
+    Open,
+}
+
+pub struct LcpFsm {
+    pub id: u8,
+    pub state: State,
+    pub proto: Lcp,
+}
+
+pub struct Ipv4cpFsm {
+    pub id: u8,
+    pub state: State,
+    pub proto: Ipv4cp,
+}
+
+pub struct Ppp {
+    pub phase: Phase,
+    pub opening: bool,
+    pub lcp: LcpFsm,
+    pub pap: Pap,
+    pub ipv4cp: Ipv4cpFsm,
+}
+
+pub struct Status {
+    pub phase: Phase,
+    pub up: bool,
+    pub address: Shown,
+    pub peer_address: Shown,
+    pub dns_server_1: Shown,
+    pub dns_server_2: Shown,
+}
+
+pub struct Changed {
+    pub outcome: Outcome,
+    pub ppp: Ppp,
+}
+
+// `echoed`: the packet is an echo that was answered, so its byte 2 becomes 10.
+pub struct Turned {
+    pub outcome: Outcome,
+    pub echoed: bool,
+    pub ppp: Ppp,
+    pub replies: Replies,
+}
+
+fn is_dead(f: Phase) -> bool
+    ensures { λ r. ⌜ r ≡ isDead f ⌝ }
+{
+    match f {
+        Phase::Dead => true,
+        Phase::Establish => false,
+        Phase::Auth => false,
+        Phase::Network => false,
+        Phase::Open => false,
+    }
+}
+
+impl Ppp {
+    fn fresh(pap: Pap) -> Self
+        ensures { λ r. ⌜ r ≡ freshWith pap ⌝ }
+    {
+        Ppp {
+            phase: Phase::Dead,
+            opening: false,
+            lcp: LcpFsm {
+                id: 1,
+                state: State::Closed,
+                proto: Lcp::new(),
+            },
+            pap,
+            ipv4cp: Ipv4cpFsm {
+                id: 1,
+                state: State::Closed,
+                proto: Ipv4cp::new(),
+            },
+        }
+    }
+
+    // Phase Dead. Name and password above 120 bytes together are refused, and the record has neither.
+    pub fn new(username: &[u8], password: &[u8]) -> Changed
+        ensures { λ r. ⌜ Changes (newOf (now (username .entry)) (now (password .entry))) (r .outcome) (r .ppp) ⌝ }
+    {
+        let p = Ppp::fresh(Pap::new(username, password));
+        if is_within(username.len(), password.len()) {
+            return Changed {
+                outcome: Outcome::Done,
+                ppp: p,
+            };
+        }
+        Changed {
+            outcome: Outcome::Refused(Refusal::CredentialsLong),
+            ppp: p,
+        }
+    }
+
+    // Starts the link from phase Dead.
+    pub fn open(self) -> Changed
+        ensures { λ r. ⌜ Changes (openOf self) (r .outcome) (r .ppp) ⌝ }
+    {
+        let f = self.phase;
+        if !is_dead(f) {
+            return Changed {
+                outcome: Outcome::Refused(Refusal::NotDead),
+                ppp: self,
+            };
+        }
+        let mut p = self.with_phase(Phase::Establish);
+        p.opening = true;
+        Changed {
+            outcome: Outcome::Done,
+            ppp: p,
+        }
+    }
+
+    pub fn status(self) -> Status
+        ensures { λ r. ⌜ r ≡ statusOf self ⌝ }
+    {
+        let f = self.phase;
+        let c = self.ipv4cp;
+        let s = c.state;
+        let i = c.proto;
+        if !is_opened(s) {
+            return Status {
+                phase: f,
+                up: false,
+                address: Shown::Absent,
+                peer_address: Shown::Absent,
+                dns_server_1: Shown::Absent,
+                dns_server_2: Shown::Absent,
+            };
+        }
+        let a = i.address;
+        let d = i.dns_server_1;
+        let e = i.dns_server_2;
+        Status {
+            phase: f,
+            up: true,
+            address: a.get(),
+            peer_address: show(i.peer_address),
+            dns_server_1: d.get(),
+            dns_server_2: e.get(),
+        }
+    }
+
+    fn refuse(self, why: Refusal) -> Turned
+        ensures { λ t. ⌜ t ≡ turnedAs (pppRefused self why) ⌝ }
+    {
+        Turned {
+            outcome: Outcome::Refused(why),
+            echoed: false,
+            ppp: self,
+            replies: Replies::none(),
+        }
+    }
+
+    fn received_lcp(self, pkt: &[u8]) -> Turned
+        ensures { λ t. ⌜ t ≡ turnedAs (lcpTurn self (handleOf (lcpIn (self .lcp)) (now (pkt .entry)))) ⌝ }
+    {
+        let a = self.lcp;
+        let h = lcp_in(a).handle(pkt);
+        let o = h.outcome;
+        let f = h.fsm;
+        let r = h.replies;
+        Turned {
+            outcome: o,
+            echoed: h.echoed,
+            ppp: self.with_lcp(lcp_out(f, a)),
+            replies: r,
+        }
+    }
+
+    fn received_pap(self, pkt: &[u8]) -> Turned
+        ensures { λ t. ⌜ t ≡ turnedAs (papTurn self (papHandleOf (self .pap) (now (pkt .entry)))) ⌝ }
+    {
+        let b = self.pap;
+        let h = b.handle(pkt);
+        let o = h.outcome;
+        let q = h.pap;
+        let r = h.replies;
+        Turned {
+            outcome: o,
+            echoed: false,
+            ppp: self.with_pap(q),
+            replies: r,
+        }
+    }
+
+    fn received_ipv4cp(self, pkt: &[u8]) -> Turned
+        ensures { λ t. ⌜ t ≡ turnedAs (ipv4cpTurn self (handleOf (ipv4cpIn (self .ipv4cp)) (now (pkt .entry)))) ⌝ }
+    {
+        let c = self.ipv4cp;
+        let h = ipv4cp_in(c).handle(pkt);
+        let o = h.outcome;
+        let f = h.fsm;
+        let r = h.replies;
+        Turned {
+            outcome: o,
+            echoed: h.echoed,
+            ppp: self.with_ipv4cp(ipv4cp_out(f, c)),
+            replies: r,
+        }
+    }
+
+    // An unknown protocol is rejected in every phase.
+    fn send_protocol_reject(self, pkt: &[u8]) -> Turned
+        ensures { λ t. ⌜ t ≡ turnedAs (rejectOf self (now (pkt .entry))) ⌝ }
+    {
+        let a = self.lcp;
+        let h = lcp_in(a).send_protocol_reject(pkt);
+        let o = h.outcome;
+        let f = h.fsm;
+        let r = h.replies;
+        Turned {
+            outcome: o,
+            echoed: h.echoed,
+            ppp: self.with_lcp(lcp_out(f, a)),
+            replies: r,
+        }
+    }
+
+    fn received(self, pkt: &[u8]) -> Turned
+        ensures { λ t. ⌜ t ≡ turnedAs (receivedOf self (now (pkt .entry))) ⌝ }
+    {
+        if pkt.len() < 2 {
+            return self.refuse(Refusal::PacketShort);
+        }
+        let protocol = protocol_in(pkt);
+        if protocol == LCP as u32 {
+            return self.received_lcp(pkt);
+        }
+        if protocol == PAP as u32 {
+            return self.received_pap(pkt);
+        }
+        if protocol == IPV4 as u32 {
+            return Turned {
+                outcome: Outcome::Done,
+                echoed: false,
+                ppp: self,
+                replies: Replies::none(),
+            };
+        }
+        if protocol == IPV4CP as u32 {
+            return self.received_ipv4cp(pkt);
+        }
+        self.send_protocol_reject(pkt)
+    }
+
+    // A phase step, where nothing was received.
+    pub fn poll(self) -> Turned
+        ensures { λ t. ⌜ Turns (pollOf self) (t .outcome) (t .echoed) (t .ppp) (t .replies) ⌝ }
+    {
+        let s = self.step_phase();
+        let p = s.ppp;
+        let r = s.replies;
+        Turned {
+            outcome: Outcome::Done,
+            echoed: false,
+            ppp: p,
+            replies: r,
+        }
+    }
+
+    // One received packet, then a phase step; a refusal changes nothing.
+    pub fn turn(self, pkt: &[u8]) -> Turned
+        ensures { λ t. ⌜ Turns (turnOf self (now (pkt .entry))) (t .outcome) (t .echoed) (t .ppp) (t .replies) ⌝ }
+    {
+        let t = self.received(pkt);
+        let o = t.outcome;
+        if let Outcome::Refused(why) = o {
+            return self.refuse(why);
+        }
+        let p = t.ppp;
+        let r = t.replies;
+        let s = p.step_phase();
+        let q = s.ppp;
+        let n = s.replies;
+        Turned {
+            outcome: Outcome::Done,
+            echoed: t.echoed,
+            ppp: q,
+            replies: r.join(n),
+        }
+    }
+}
