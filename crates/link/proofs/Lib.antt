@@ -1,13 +1,5 @@
-pub mod Calls
-pub mod Causes
-pub mod Faults
-pub mod Feeding
 pub mod Hearing
 pub mod OneAnswer
 pub mod Passing
 pub mod Polling
-pub mod Polls
-pub mod Rows
 pub mod Sending
-pub mod Table
-pub mod Writing

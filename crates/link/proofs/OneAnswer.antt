@@ -6,13 +6,10 @@ use Prim.Native.Nat.{ℕ}
 use Rattle.framing.specs.declared.frame_reader.FrameReader.{FrameReader}
 use Rattle.framing.proofs.OneAnswer.{lays-one}
 use Rattle.phases.specs.Phases.{PppTurn}
-use Rattle.phases.specs.declared.ppp.Status.{Status}
 use Rattle.link.specs.declared.refusal.Outcome.{Outcome}
 use Rattle.link.specs.declared.pppos.PPPoS.{PPPoS}
 use Rattle.link.specs.declared.pppos.PPPoSAction.{PPPoSAction}
 use Rattle.link.specs.Link.{Changes, Consumes, Poll, Polls, Sends}
-use Rattle.link.specs.Lines.{Shows}
-use Rattle.link.specs.Feed.{Run, Feeds}
 
 pub changes-one : {t : PppTurn} {r : FrameReader} {o₁ o₂ : Outcome} {l₁ l₂ : PPPoS}
     → Changes t r o₁ l₁ → Changes t r o₂ l₂ → (o₁ ≡ o₂) × (l₁ ≡ l₂)
@@ -31,12 +28,3 @@ polls-one a b =
 pub sends-one : {l : PPPoS} {pkt tx : List ℕ} {o₁ o₂ : Outcome} {n₁ n₂ : ℕ} {tx₁ tx₂ : List ℕ}
     → Sends l pkt tx o₁ n₁ tx₁ → Sends l pkt tx o₂ n₂ tx₂ → (o₁ ≡ o₂) × ((n₁ ≡ n₂) × (tx₁ ≡ tx₂))
 sends-one a b = (a .outcome ∙ sym (b .outcome), lays-one (a .lays) (b .lays))
-
-pub shows-one : {s : Status} {buf buf₁ buf₂ : List ℕ} {o₁ o₂ : Outcome} {n₁ n₂ : ℕ}
-    → Shows s buf o₁ n₁ buf₁ → Shows s buf o₂ n₂ buf₂ → (o₁ ≡ o₂) × (n₁ ≡ n₂) × (buf₁ ≡ buf₂)
-shows-one a b = (a .outcome ∙ sym (b .outcome), a .count ∙ sym (b .count), a .bytes ∙ sym (b .bytes))
-
-pub feeds-one : {s : Run} {bs tx₁ tx₂ rx₁ rx₂ : List ℕ} {n₁ n₂ : ℕ} {l₁ l₂ : PPPoS}
-    → Feeds s bs n₁ l₁ tx₁ rx₁ → Feeds s bs n₂ l₂ tx₂ rx₂ → (n₁ ≡ n₂) × (l₁ ≡ l₂) × (tx₁ ≡ tx₂) × (rx₁ ≡ rx₂)
-feeds-one a b =
-    (a .count ∙ sym (b .count), a .link ∙ sym (b .link), a .transmit ∙ sym (b .transmit), a .receive ∙ sym (b .receive))

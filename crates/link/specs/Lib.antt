@@ -1,6 +1,3 @@
 pub mod Refusal
 pub mod Frames
 pub mod Link
-pub mod Lines
-pub mod Feed
-pub mod Table

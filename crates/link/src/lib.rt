@@ -1,6 +1,4 @@
-// The link: framing below, negotiation above it, and the status lines.
-pub mod feed;
+// The link: framing below, negotiation and its phases beside it.
 pub mod frames;
 pub mod pppos;
 pub mod refusal;
-pub mod status;

@@ -21,7 +21,7 @@ use link::pppos::PPPoSAction;
 use link::pppos::Polled;
 use link::pppos::ip_packet;
 use link::refusal::Outcome;
-use link::status::lines;
+use report::status::lines;
 
 // What stands behind the name of a call that has no count.
 fn changed(w: World, c: Changed, at: usize, out: &mut [u8]) -> Answered {

@@ -1,10 +1,10 @@
 // The status lines of recorded negotiations, each below the name of its file.
 use framing::frame_reader::Reading;
 use libc::STDOUT_FILENO;
-use link::feed::feed;
-use link::feed::start;
+use report::feed::feed;
+use report::feed::start;
 use link::pppos::PPPoS;
-use link::status::lines;
+use report::status::lines;
 
 fn played(bytes: &[u8]) -> PPPoS {
     let mut tx = [0u8; 795];

@@ -2,10 +2,10 @@
 use framing::frame_reader::Reading;
 use libc::STDIN_FILENO;
 use libc::STDOUT_FILENO;
-use link::feed::feed;
-use link::feed::start;
+use report::feed::feed;
+use report::feed::start;
 use link::pppos::PPPoS;
-use link::status::lines;
+use report::status::lines;
 
 struct Step {
     link: PPPoS,

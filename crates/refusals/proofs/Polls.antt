@@ -1,0 +1,252 @@
+-- The refusal table of poll: the first row that holds, and what is sent where none does.
+-- Assumes nothing.
+use mathlib.Core.Path.{_≡_, refl, ap, sym, _∙_}
+use mathlib.Core.Bool.{true, false, cond, true≢false, false≢true}
+use mathlib.Core.List.{List, []}
+use mathlib.Core.Logic.{_⊎_, inl, inr}
+use Prim.Native.Nat.{ℕ, _-_, _<_}
+use native.Mathlib.Omega.{arith}
+use borrow.Author.Tests.{ltb-true, ltb-false, leb-true, leb-false, eqb-true, le-ltb}
+use lib.Dec.{eqb, ltb, leb}
+use lib.ListN.{length, drop, length-take}
+use Rattle.laws.proofs.Cases.{by-test, both, cond-by}
+use Rattle.framing.specs.Writer.{over}
+use Rattle.framing.specs.Reader.{isShort, isComplete, fetched}
+use Rattle.framing.specs.declared.frame_reader.FrameReader.{FrameReader}
+use Rattle.framing.specs.declared.frame_reader.State.{State}
+use Rattle.framing.specs.declared.frame_reader.State.the-variants.{Start, Address, Data, Complete}
+use Rattle.negotiation.specs.Refusal.{numberOf, outcomeNumber}
+use Rattle.negotiation.specs.Wire.{protocolIn}
+use Rattle.phases.specs.Phases.{PppTurn, receivedOf, pollOf, turnOf}
+use Rattle.phases.specs.declared.ppp.Ppp.{Ppp}
+use Rattle.negotiation.specs.declared.refusal.Outcome.{Outcome}
+use Rattle.negotiation.specs.declared.refusal.Outcome.the-variants.{Done, Refused}
+use Rattle.negotiation.specs.declared.refusal.Refusal.{Refusal}
+use Rattle.negotiation.specs.declared.refusal.Refusal.the-variants.{NotDead, CredentialsLong, PacketShort, ConfigureShort, EchoEmpty, PapPast, OptionCut, OptionLong, OptionsMany, ReplyLong as LongReply}
+use Rattle.phases.proofs.Phasing.{turn-refused, turn-done}
+use Rattle.link.specs.Frames.{frames}
+use Rattle.link.specs.Link.{heldBy, linkOf, Poll, declined, written, answered, isIp, packetPoll, pollLink, Polls, actionNumber}
+use Rattle.refusals.specs.Table.{packetIn, OptionFault, Kept, transmitted, pollRows}
+use Rattle.link.specs.declared.refusal.Refusal.the-variants.{Negotiation}
+use Rattle.link.specs.declared.pppos.PPPoS.{PPPoS}
+use Rattle.link.specs.declared.pppos.PPPoSAction.{PPPoSAction}
+use Rattle.link.specs.declared.pppos.PPPoSAction.the-variants.{Idle, Received, Transmit}
+use Rattle.refusals.proofs.Rows.{First}
+use Rattle.refusals.proofs.Faults.{fault-number}
+use Rattle.refusals.proofs.Causes.{numberFrom, short-refused, length-refused, option-refused, reply-refused, Cause, fine, short, lengthShort, option, replyLong, cause}
+
+complete-is : (s : State) → isComplete s ≡ true → s ≡ Complete
+complete-is Start e = absurd (false≢true e)
+complete-is Address e = absurd (false≢true e)
+complete-is Data e = absurd (false≢true e)
+complete-is Complete e = refl
+
+refusal-some : (why : Refusal) → numberOf why ≡ 0 → ⊥
+refusal-some NotDead e = omega arith
+refusal-some CredentialsLong e = omega arith
+refusal-some PacketShort e = omega arith
+refusal-some ConfigureShort e = omega arith
+refusal-some EchoEmpty e = omega arith
+refusal-some PapPast e = omega arith
+refusal-some (OptionCut at) e = omega arith
+refusal-some OptionLong e = omega arith
+refusal-some OptionsMany e = omega arith
+refusal-some LongReply e = omega arith
+
+option-number : {p : Ppp} {pkt : List ℕ} {n : ℕ} → OptionFault p pkt n → (n ≡ 7) ⊎ ((n ≡ 8) ⊎ (n ≡ 9))
+option-number (OptionFault.request w k n x) = fault-number x
+option-number (OptionFault.answer w c k e n x) = inl refl
+
+-- ---- what a poll comes to
+
+abbrev keptOf : Poll → Kept
+keptOf q = record { link = q .link; tx = q .tx; rx = q .rx }
+
+-- the frames that a poll has to send
+abbrev pub outOf : PPPoS → List ℕ → List ℕ
+outOf l rx =
+    cond (isComplete (l .«frame_reader» .state))
+    (cond (isIp (packetIn l rx)) [] (frames (turnOf (l .ppp) (packetIn l rx) .sent)))
+    (frames (pollOf (l .ppp) .sent))
+
+-- where nothing is refused, out is at the front of the transmit buffer and counted
+abbrev Sent : List ℕ → List ℕ → Poll → Type 0
+Sent tx out q = actionNumber (q .action) ≡ 0 → (transmitted (q .action) ≡ length out) × (q .tx ≡ over out tx)
+
+record Right (l : PPPoS) (tx rx out : List ℕ) (q : Poll) : Type 0 where
+  first : First (actionNumber (q .action)) (keptOf q) (pollRows l tx rx out)
+  sent : Sent tx out q
+
+module _ (l : PPPoS) (tx rx : List ℕ) where
+  -- the last row
+  Last : List ℕ → Poll → Type 0
+  Last out q =
+      ((actionNumber (q .action) ≡ 1) × (length tx < length out) × ((q .link ≡ l) × (q .tx ≡ tx) × (q .rx ≡ rx)))
+      ⊎ ((length tx < length out → ⊥) × (actionNumber (q .action) ≡ 0))
+
+  sent-count : (n : ℕ) → (actionNumber (cond (eqb n 0) Idle (Transmit n)) ≡ 0) × (transmitted (cond (eqb n 0) Idle (Transmit n)) ≡ n)
+  sent-count n = cond-by (λ (a : PPPoSAction). (actionNumber a ≡ 0) × (transmitted a ≡ n)) (eqb n 0) (λ e. (refl, sym (eqb-true n 0 e))) (λ _. (refl, refl))
+
+  written-last : (r : FrameReader) (t : PppTurn) → Last (frames (t .sent)) (written l r t tx rx) × Sent tx (frames (t .sent)) (written l r t tx rx)
+  unfolding Last
+  written-last r t =
+      let out = frames (t .sent) in
+      cond-by (λ (q : Poll). Last out q × Sent tx out q) (leb (length out) (length tx))
+      (λ e. (inr ((λ h. omega (arith, leb-true (length out) (length tx) e)), sent-count (length out) .0), (λ _. (sent-count (length out) .1, refl))))
+      (λ e. (inl (refl, leb-false (length out) (length tx) e, (refl, refl, refl)), (λ z. absurd (omega arith))))
+
+  -- what was received
+  abbrev Got : Type 0
+  Got = l .«frame_reader» .state ≡ Complete
+
+  abbrev pkt : List ℕ
+  pkt = packetIn l rx
+
+  abbrev Dropped : Poll → Type 0
+  Dropped q = (q .link ≡ linkOf (fetched (l .«frame_reader»)) (l .ppp)) × (q .tx ≡ tx) × (q .rx ≡ rx)
+
+  module _ (out : List ℕ) (q : Poll) (held : length rx < l .«frame_reader» .len → ⊥) where
+    -- a packet that is not refused
+    first-last : (Got → numberFrom (l .ppp) pkt ≡ 0) → Last out q → First (actionNumber (q .action)) (keptOf q) (pollRows l tx rx out)
+    unfolding Last
+    first-last z last =
+        inr (
+          held,
+          inr (
+            (λ h. omega (arith, short-refused (l .ppp) pkt (h .1), z (h .0))),
+            inr (
+              (λ h. omega (arith, length-refused (l .ppp) pkt (h .1), z (h .0))),
+              inr (
+                (λ h. omega (arith, option-refused (l .ppp) pkt (h .1), z (h .0))),
+                inr (
+                  (λ h. omega (arith, option-refused (l .ppp) pkt (h .1), z (h .0))),
+                  inr (
+                    (λ h. omega (arith, option-refused (l .ppp) pkt (h .1), z (h .0))),
+                    inr (
+                      (λ h. omega (arith, reply-refused (l .ppp) pkt (h .1), z (h .0))),
+                      last,
+                    ),
+                  ),
+                ),
+              ),
+            ),
+          ),
+        )
+
+    -- behind the rows 3, 5 and 6, for a number above them
+    past-length : (m : ℕ) → numberFrom (l .ppp) pkt ≡ m → 6 < m → First m (keptOf q) (drop 3 (pollRows l tx rx out))
+        → First m (keptOf q) (pollRows l tx rx out)
+    past-length m e k f =
+        inr (
+          held,
+          inr (
+            (λ h. omega (arith, short-refused (l .ppp) pkt (h .1))),
+            inr ((λ h. omega (arith, length-refused (l .ppp) pkt (h .1))), f),
+          ),
+        )
+
+    -- the option's fault has another number
+    not-option : (m n : ℕ) → numberFrom (l .ppp) pkt ≡ m → (n ≡ m → ⊥) → Got × OptionFault (l .ppp) pkt n → ⊥
+    not-option m n e k h = k (sym (option-refused (l .ppp) pkt (h .1)) ∙ e)
+
+    -- one that is
+    first-option : (m : ℕ) → Got → numberFrom (l .ppp) pkt ≡ m → Dropped q → OptionFault (l .ppp) pkt m → (m ≡ 7) ⊎ ((m ≡ 8) ⊎ (m ≡ 9))
+        → First m (keptOf q) (pollRows l tx rx out)
+    first-option m g e d x (inl n) = past-length m e (omega arith) (inl (n, (g, rw n at x), d))
+    first-option m g e d x (inr (inl n)) =
+        past-length m e (omega arith) (inr (not-option m 7 e (λ k. omega arith), inl (n, (g, rw n at x), d)))
+    first-option m g e d x (inr (inr n)) =
+        past-length m e (omega arith)
+        (inr (not-option m 7 e (λ k. omega arith), inr (not-option m 8 e (λ k. omega arith), inl (n, (g, rw n at x), d))))
+
+    first-refused : (m : ℕ) → Got → numberFrom (l .ppp) pkt ≡ m → (m ≡ 0 → ⊥) → Dropped q → Cause (l .ppp) pkt m
+        → First m (keptOf q) (pollRows l tx rx out)
+    first-refused m g e z d fine = absurd (z refl)
+    first-refused m g e z d (short h) = inr (held, inl (refl, (g, h), d))
+    first-refused m g e z d (lengthShort h) =
+        inr (held, inr ((λ h. omega (arith, short-refused (l .ppp) pkt (h .1))), inl (refl, (g, h), d)))
+    first-refused m g e z d (option x) = first-option _ g e d x (option-number x)
+    first-refused m g e z d (replyLong h) =
+        past-length 10 e (omega arith)
+        (inr (
+          not-option 10 7 e (λ k. omega arith),
+          inr (not-option 10 8 e (λ k. omega arith), inr (not-option 10 9 e (λ k. omega arith), inl (refl, (g, h), d))),
+        ))
+
+  module _ (r : FrameReader) (t : PppTurn) where
+    answered-done : t .outcome ≡ Done → answered l r t tx rx ≡ written l r t tx rx
+    unfolding answered
+    answered-done e = rw e refl
+
+    answered-refused : {why : Refusal} → t .outcome ≡ Refused why → answered l r t tx rx ≡ declined (Negotiation why) (linkOf r (l .ppp)) tx rx
+    unfolding answered
+    answered-refused e = rw e refl
+
+  module _ (held : length rx < l .«frame_reader» .len → ⊥) where
+    -- a turn of negotiation that refuses nothing
+    right-written : (r : FrameReader) (t : PppTurn) → (Got → numberFrom (l .ppp) pkt ≡ 0) → Right l tx rx (frames (t .sent)) (written l r t tx rx)
+    right-written r t z =
+        let w = written-last r t in
+        record { first = first-last (frames (t .sent)) (written l r t tx rx) held z (w .0); sent = w .1 }
+
+    -- the packet, by what negotiation says of it
+    right-turn : Got → (o : Outcome) → receivedOf (l .ppp) pkt .outcome ≡ o
+        → Right l tx rx (frames (turnOf (l .ppp) pkt .sent)) (answered l (fetched (l .«frame_reader»)) (turnOf (l .ppp) pkt) tx rx)
+    right-turn g Done e =
+        let r = fetched (l .«frame_reader») in
+        let t = turnOf (l .ppp) pkt in
+        rw (answered-done r t (ap (λ (t : PppTurn). t .outcome) (turn-done (l .ppp) pkt e))) (right-written r t (λ _. ap outcomeNumber e))
+    right-turn g (Refused why) e =
+        let r = fetched (l .«frame_reader») in
+        let t = turnOf (l .ppp) pkt in
+        let n = ap outcomeNumber e in
+        rw (answered-refused r t (ap (λ (t : PppTurn). t .outcome) (turn-refused (l .ppp) pkt e)))
+        (record {
+          first =
+              first-refused (frames (t .sent)) (declined (Negotiation why) (linkOf r (l .ppp)) tx rx) held (numberOf why) g n (refusal-some why)
+              (refl, refl, refl) (rw n at (cause (l .ppp) pkt));
+          sent = λ z. absurd (refusal-some why z);
+        })
+
+    -- an IPv4 packet is refused for nothing
+    ip-fine : isIp pkt ≡ true → numberFrom (l .ppp) pkt ≡ 0
+    unfolding receivedOf
+    ip-fine e =
+        let t = both (leb 2 (length pkt)) (eqb (protocolIn pkt) 0x0021) e in
+        rw (le-ltb (length pkt) 2 (leb-true 2 (length pkt) (t .0)), eqb-true (protocolIn pkt) 0x0021 (t .1)) refl
+
+    right-packet : Got → Right l tx rx (cond (isIp pkt) [] (frames (turnOf (l .ppp) pkt .sent)))
+        (packetPoll l (fetched (l .«frame_reader»)) (l .«frame_reader» .len - 2) tx rx pkt)
+    unfolding packetPoll Last
+    right-packet g =
+        by-test (isIp pkt)
+        (λ e. rw e (record { first = first-last [] (record { action = Received 3 (l .«frame_reader» .len - 2); link = linkOf (fetched (l .«frame_reader»)) (l .ppp); tx = tx; rx = rx }) held (λ _. ip-fine e) (inr ((λ h. omega arith), refl)); sent = λ _. (refl, refl) }))
+        (λ e. rw e (right-turn g (receivedOf (l .ppp) pkt .outcome) refl))
+
+  right : Right l tx rx (outOf l rx) (pollLink l tx rx)
+  unfolding pollLink answered
+  right =
+      let r = l .«frame_reader» in
+      let P = Right l tx rx (outOf l rx) in
+      cond-by P (isShort (heldBy l rx))
+      (λ e. record { first = inl (refl, ltb-true _ _ e, (refl, refl, refl)); sent = λ z. absurd (omega arith) })
+      (λ e. let held : length rx < r .len → ⊥ = λ h. omega (arith, ltb-false (length rx) (r .len) e) in
+      cond-by P (isComplete (r .state))
+      (λ s. let g = complete-is (r .state) s in
+      cond-by P (ltb (r .len) 3)
+      (λ h. record {
+        first = inr (held, inl (refl, (g, omega (arith, length-take (r .len - 3) (drop 1 rx), ltb-true (r .len) 3 h)), (refl, refl, refl)));
+        sent = λ z. absurd (omega arith);
+      })
+      (λ h. let m : r .len - 2 - 1 ≡ r .len - 3 = omega arith in
+      rw (s, m) (right-packet held g)))
+      (λ s. rw s (right-written held r (pollOf (l .ppp)) (λ g. absurd (true≢false (sym (ap isComplete g) ∙ s))))))
+
+-- ---- as the contract has it
+
+module _ (l : PPPoS) (tx rx : List ℕ) {a : PPPoSAction} {l′ : PPPoS} {tx′ rx′ : List ℕ} (c : Polls (pollLink l tx rx) a l′ tx′ rx′) where
+  pub poll-first : First (actionNumber a) (record { link = l′; tx = tx′; rx = rx′ }) (pollRows l tx rx (outOf l rx))
+  poll-first = rw (c .action, c .link, c .transmit, c .receive) (right l tx rx .first)
+
+  pub poll-sent : actionNumber a ≡ 0 → (transmitted a ≡ length (outOf l rx)) × (tx′ ≡ over (outOf l rx) tx)
+  poll-sent = rw (c .action, c .transmit) (right l tx rx .sent)

@@ -1,0 +1,61 @@
+-- Document 01's refusal table holds of every call: each row is given exactly when it says, and leaves what it says.
+-- Assumes nothing.
+use mathlib.Core.Path.{_≡_, refl}
+use mathlib.Core.List.{List, _++_}
+use Prim.Native.Nat.{ℕ}
+use lib.ListN.{length, drop}
+use Rattle.framing.specs.Reader.{freshReader}
+use Rattle.framing.specs.declared.frame_reader.Reading.{Reading}
+use Rattle.phases.specs.Phases.{openOf, newOf}
+use Rattle.phases.specs.declared.ppp.Status.{Status}
+use Rattle.link.specs.Refusal.{outcomeNumber}
+use Rattle.link.specs.Link.{Changes, Consumes, pollLink, Polls, actionNumber, Sends}
+use Rattle.report.specs.Lines.{linesOf, Shows}
+use Rattle.refusals.specs.Table.{Exactly, newRows, openRows, consumeRows, sendRows, linesRows, transmitted, pollRows}
+use Rattle.link.specs.declared.refusal.Outcome.{Outcome}
+use Rattle.link.specs.declared.pppos.PPPoS.{PPPoS}
+use Rattle.link.specs.declared.pppos.PPPoSAction.{PPPoSAction}
+use Rattle.refusals.proofs.Rows.{first-exactly}
+use Rattle.refusals.proofs.Calls.{new-first, open-first, consume-first, send-first, lines-first}
+use Rattle.refusals.proofs.Polls.{outOf, poll-first, poll-sent}
+
+-- a poll has some bytes to send, whatever its transmit buffer: the table holds with them, and they are sent where nothing is refused
+pub record PollHolds (l : PPPoS) (rx : List ℕ) : Type 0 where
+  pub out : List ℕ
+  pub table : (tx : List ℕ) {a : PPPoSAction} {l′ : PPPoS} {tx′ rx′ : List ℕ} → Polls (pollLink l tx rx) a l′ tx′ rx′
+      → Exactly ⊥ (pollRows l tx rx out) (actionNumber a) (record { link = l′; tx = tx′; rx = rx′ })
+  pub sent : (tx : List ℕ) {a : PPPoSAction} {l′ : PPPoS} {tx′ rx′ : List ℕ} → Polls (pollLink l tx rx) a l′ tx′ rx′
+      → actionNumber a ≡ 0 → (transmitted a ≡ length out) × (tx′ ≡ out ++ drop (length out) tx)
+
+-- each call as its contract has it
+pub record TableHolds : Type 0 where
+  pub new : (name password : List ℕ) (k : Reading) {o : Outcome} {l : PPPoS} → Changes (newOf name password) (freshReader k) o l
+      → Exactly ⊥ (newRows name password k) (outcomeNumber o) l
+  pub «open» : (l : PPPoS) {o : Outcome} {l′ : PPPoS} → Changes (openOf (l .ppp)) (l .«frame_reader») o l′
+      → Exactly ⊥ (openRows l) (outcomeNumber o) l′
+  pub consume : (l : PPPoS) (rx bs : List ℕ) {o : Outcome} {n : ℕ} {l′ : PPPoS} {rx′ : List ℕ} → Consumes l rx bs o n l′ rx′
+      → Exactly ⊥ (consumeRows l rx) (outcomeNumber o) (record { count = n; link = l′; rx = rx′ })
+  pub poll : (l : PPPoS) (rx : List ℕ) → PollHolds l rx
+  pub send : (l : PPPoS) (pkt tx : List ℕ) {o : Outcome} {n : ℕ} {tx′ : List ℕ} → Sends l pkt tx o n tx′
+      → Exactly ⊥ (sendRows l pkt tx) (outcomeNumber o) (record { count = n; bytes = tx′ })
+  pub lines : (s : Status) (buf : List ℕ) {o : Outcome} {n : ℕ} {buf′ : List ℕ} → Shows s buf o n buf′
+      → Exactly ⊥ (linesRows (linesOf s) buf) (outcomeNumber o) (record { count = n; bytes = buf′ })
+
+poll-holds : (l : PPPoS) (rx : List ℕ) → PollHolds l rx
+poll-holds l rx =
+    record {
+      out = outOf l rx;
+      table = λ tx c. first-exactly _ _ (pollRows l tx rx (outOf l rx)) (poll-first l tx rx c) refl;
+      sent = λ tx c. poll-sent l tx rx c;
+    }
+
+pub exactly : TableHolds
+exactly =
+    record {
+      new = λ name password k c. first-exactly _ _ (newRows name password k) (new-first name password k c) refl;
+      «open» = λ l c. first-exactly _ _ (openRows l) (open-first l c) refl;
+      consume = λ l rx bs c. first-exactly _ _ (consumeRows l rx) (consume-first l rx bs c) refl;
+      poll = poll-holds;
+      send = λ l pkt tx c. first-exactly _ _ (sendRows l pkt tx) (send-first l pkt tx c) refl;
+      lines = λ s buf c. first-exactly _ _ (linesRows (linesOf s) buf) (lines-first s buf c) refl;
+    }

@@ -1,0 +1,126 @@
+-- Laws of a fresh link and of a run of received bytes: a turn by what its two calls promise, and turns up to the end.
+-- Assumes nothing.
+use mathlib.Core.Path.{_≡_, refl, ap}
+use mathlib.Core.Bool.{false}
+use mathlib.Core.List.{List, []}
+use Prim.Native.Nat.{ℕ, zero, suc, _+_, _-_, _*_, _≤_, _<_}
+use native.Mathlib.Omega.{arith}
+use borrow.Author.Tests.{eqb-true, eqb-false, ne-eqb, le-leb, lt-leb}
+use lib.Dec.{eqb}
+use lib.ListN.{length, take, drop, length-drop}
+use lib.Seq.{drop-drop}
+use Rattle.laws.proofs.Cases.{by-test, cond-all}
+use Rattle.framing.proofs.Reader.{consumed-left}
+use Rattle.framing.specs.Reader.{freshReader}
+use Rattle.framing.specs.declared.frame_reader.Reading.{Reading}
+use Rattle.phases.specs.Phases.{newOf, openOf}
+use Rattle.negotiation.proofs.Walks.{rest}
+use Rattle.link.specs.Link.{Changes, heldBy, Consumes, pollLink, Polls}
+use Rattle.report.specs.Feed.{started, Run, runOf, turned, idleAfter, turns, fedLink, Feeds}
+use Rattle.link.specs.declared.refusal.Outcome.{Outcome}
+use Rattle.link.specs.declared.pppos.PPPoS.{PPPoS}
+use Rattle.link.specs.declared.pppos.PPPoSAction.{PPPoSAction}
+
+pub start-polls : {k : Reading} {l l′ l″ : PPPoS} {o o′ : Outcome} {a : PPPoSAction} {tx′ rx′ : List ℕ} (tx rx : List ℕ)
+    → Changes (newOf [] []) (freshReader k) o l → Changes (openOf (l .ppp)) (l .«frame_reader») o′ l′ → Polls (pollLink l′ tx rx) a l″ tx′ rx′
+    → Polls (started k tx rx) a l″ tx′ rx′
+unfolding started
+start-polls tx rx n o p = rw (o .link, n .link) at p
+
+-- ---- a turn
+
+pub turn-feeds : {l l′ l″ : PPPoS} {tx′ rx rx′ rx″ bs : List ℕ} {o : Outcome} {n : ℕ} {a : PPPoSAction} (tx : List ℕ)
+    → Consumes l rx bs o n l′ rx′ → Polls (pollLink l′ tx rx′) a l″ tx′ rx″ → Feeds (turned (runOf l tx rx bs)) bs n l″ tx′ rx″
+unfolding turned
+turn-feeds tx e p =
+    record {
+      count = e .count;
+      link = rw (e .link, e .bytes) at (p .link);
+      transmit = rw (e .link, e .bytes) at (p .transmit);
+      receive = rw (e .link, e .bytes) at (p .receive);
+    }
+
+left-is : (s : Run) → turned s .left ≡ drop (length (s .left) - length (turned s .left)) (s .left)
+unfolding turned
+left-is s = consumed-left (heldBy (s .link) (s .rx)) (s .left)
+
+left-le : (s : Run) → length (turned s .left) ≤ length (s .left)
+left-le s = omega (arith, simp length-drop at (ap length (left-is s)))
+
+-- ---- turns
+
+-- a run that goes to the run end, with enough turns left
+pub record Ahead (idle : ℕ) (s end : Run) : Type 0 where
+  pub fuel : ℕ
+  pub enough : 2 * length (s .left) + 2 ≤ fuel + idle
+  pub same : turns fuel idle s ≡ end
+
+pub starts : (l : PPPoS) (tx rx bs : List ℕ) → Ahead 0 (runOf l tx rx bs) (fedLink l tx rx bs)
+unfolding fedLink
+starts l tx rx bs = record { fuel = 2 * length bs + 2; enough = omega arith; same = refl }
+
+goes-on : (idle : ℕ) (s : Run) {end : Run} → 0 < length (s .left) → idle < 2 → (k : ℕ) → turns (suc k) idle s ≡ end
+    → turns k (idleAfter idle (length (s .left) - length (turned s .left))) (turned s) ≡ end
+unfolding turns
+goes-on idle s h i k e =
+    let f : eqb (length (s .left)) 0 ≡ false = ne-eqb (length (s .left)) 0 (λ z. omega arith) in
+    rw (f, lt-leb 2 idle i) at e
+
+idle-enough : (idle m m′ k : ℕ) → 0 < m → m′ ≤ m → idle < 2 → 2 * m + 2 ≤ suc k + idle → 2 * m′ + 2 ≤ k + idleAfter idle (m - m′)
+idle-enough idle m m′ k h l i e =
+    by-test (eqb (m - m′) 0)
+    (λ z. rw z (omega (arith, eqb-true (m - m′) 0 z)))
+    (λ z. rw z (omega (arith, eqb-false (m - m′) 0 z)))
+
+-- one turn on
+ahead-next : (idle : ℕ) (s : Run) {end : Run} → 0 < length (s .left) → idle < 2 → Ahead idle s end
+    → Ahead (idleAfter idle (length (s .left) - length (turned s .left))) (turned s) end
+ahead-next idle s {end} h i a = go (a .fuel) (a .enough) (a .same)
+  where
+    go : (k : ℕ) → 2 * length (s .left) + 2 ≤ k + idle → turns k idle s ≡ end
+        → Ahead (idleAfter idle (length (s .left) - length (turned s .left))) (turned s) end
+    go zero e g = absurd (omega arith)
+    go (suc k) e g =
+        record { fuel = k; enough = idle-enough idle (length (s .left)) (length (turned s .left)) k h (left-le s) i e; same = goes-on idle s h i k g }
+
+-- where nothing is left, or two turns took nothing, it is at its end
+ahead-end : (idle : ℕ) (s : Run) {end : Run} → (0 < length (s .left) → 2 ≤ idle) → Ahead idle s end → s ≡ end
+unfolding turns
+ahead-end idle s {end} h a = go (a .fuel) (a .same)
+  where
+    go : (k : ℕ) → turns k idle s ≡ end → s ≡ end
+    go zero e = e
+    go (suc k) e =
+        by-test (eqb (length (s .left)) 0)
+        (λ z. rw z at e)
+        (λ z. rw (z, le-leb 2 idle (h (omega (arith, eqb-false (length (s .left)) 0 z)))) at e)
+
+-- ---- the loop: at bytes of src are taken
+
+module _ (src : List ℕ) (at : ℕ) where
+  pub within : {n : ℕ} {s : Run} {l : PPPoS} {tx rx : List ℕ} → at ≤ length src → Feeds s (take (length src - at) (drop at src)) n l tx rx → at + n ≤ length src
+  within h f = omega (arith, f .count, ap length (rest src at), length-drop at src)
+
+  pub again : {idle n : ℕ} {l l′ : PPPoS} {tx tx′ rx rx′ : List ℕ} {end : Run} → at < length src → idle < 2
+      → Ahead idle (runOf l tx rx (drop at src)) end
+      → Feeds (turned (runOf l tx rx (take (length src - at) (drop at src)))) (take (length src - at) (drop at src)) n l′ tx′ rx′
+      → Ahead (idleAfter idle n) (runOf l′ tx′ rx′ (drop (at + n) src)) end
+  again {idle} {l = l} {tx = tx} {rx = rx} h i a f =
+      let s = runOf l tx rx (drop at src) in
+      let g = rw (rest src at) at f in
+      rw (← drop-drop, g .link, g .transmit, g .receive, g .count, ← left-is s) (ahead-next idle s (rw length-drop (omega arith)) i a)
+
+  pub finished : {idle : ℕ} {l : PPPoS} {tx rx : List ℕ} {end : Run} → at ≤ length src → (at < length src → 2 ≤ idle)
+      → Ahead idle (runOf l tx rx (drop at src)) end → Feeds end src at l tx rx
+  finished {idle} {l} {tx} {rx} h i a =
+      rw (← ahead-end idle (runOf l tx rx (drop at src)) (λ z. i (omega (arith, length-drop at src))) a)
+      (record { count = rw length-drop (omega arith); link = refl; transmit = refl; receive = refl })
+
+pub fewer : (m at idle n : ℕ) → at < m → at + n ≤ m → idle < 2 → 2 * (m - (at + n)) + (2 - idleAfter idle n) < 2 * (m - at) + (2 - idle)
+fewer m at idle n h k i =
+    by-test (eqb n 0)
+    (λ z. rw z (omega (arith, eqb-true n 0 z)))
+    (λ z. rw z (omega (arith, eqb-false n 0 z)))
+
+pub idle-most : (idle n : ℕ) → idle < 2 → idleAfter idle n ≤ 2
+idle-most idle n h = cond-all (λ (m : ℕ). m ≤ 2) (eqb n 0) (omega arith) (omega arith)

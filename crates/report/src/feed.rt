@@ -1,0 +1,63 @@
+// Received bytes handed to a link, with a poll after each consume: replies are thrown away, refusals passed over.
+ghost use mathlib.Core.Path.{_≡_};
+ghost use Prim.Native.Nat.{_<_};
+ghost use Rattle.link.specs.Link.{Polls};
+ghost use Rattle.report.specs.Feed.{started, runOf, turned, idleAfter, fedLink, Feeds};
+use link::pppos::PPPoS;
+use link::pppos::Polled;
+use framing::frame_reader::Reading;
+
+pub struct Fed {
+    pub count: usize,
+    pub link: PPPoS,
+}
+
+// A fresh link with no name and no password, opened and polled once.
+pub fn start(reading: Reading, tx: &mut [u8], rx: &mut [u8]) -> Polled
+    ensures { λ p. ⌜ Polls (started reading (now (tx .entry)) (now (rx .entry))) (p .action) (p .link) (now (tx .exit)) (now (rx .exit)) ⌝ }
+{
+    let c = PPPoS::new(b"", b"", reading);
+    let l = c.link;
+    let o = l.open();
+    let l = o.link;
+    l.poll(tx, rx)
+}
+
+fn turn(link: PPPoS, tx: &mut [u8], rx: &mut [u8], src: &[u8]) -> Fed
+    ensures { λ r. ⌜ Feeds (turned (runOf link (now (tx .entry)) (now (rx .entry)) (now (src .entry)))) (now (src .entry)) (r .count) (r .link) (now (tx .exit)) (now (rx .exit)) ⌝ }
+{
+    let c = link.consume(src, rx);
+    let count = c.count;
+    let l = c.link;
+    let p = l.poll(tx, rx);
+    let link = p.link;
+    Fed { count, link }
+}
+
+fn idle_after(idle: usize, n: usize) -> usize
+    requires { ⌜ idle < 2 ⌝ }
+    ensures { λ r. ⌜ r ≡ idleAfter idle n ⌝ }
+{
+    if n == 0 { idle + 1 } else { 0 }
+}
+
+// What is not consumed is handed in again. Two turns in a row that take nothing end it: the transmit or the receive buffer is too small.
+pub fn feed(link: PPPoS, tx: &mut [u8], rx: &mut [u8], src: &[u8]) -> Fed
+    ensures { λ r. ⌜ Feeds (fedLink link (now (tx .entry)) (now (rx .entry)) (now (src .entry))) (now (src .entry)) (r .count) (r .link) (now (tx .exit)) (now (rx .exit)) ⌝ }
+{
+    let mut l = link;
+    let mut at = 0;
+    let mut idle = 0;
+    while at < src.len() {
+        if idle == 2 {
+            return Fed { count: at, link: l };
+        }
+        let t = turn(l, tx, rx, &src[at..]);
+        let next = t.link;
+        l = next;
+        let n = t.count;
+        at += n;
+        idle = idle_after(idle, n);
+    }
+    Fed { count: at, link: l }
+}
