@@ -2,4 +2,5 @@ pub mod Hearing
 pub mod OneAnswer
 pub mod Passing
 pub mod Polling
+pub mod Reached
 pub mod Sending

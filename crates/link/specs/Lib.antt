@@ -1,3 +1,4 @@
 pub mod Refusal
 pub mod Frames
 pub mod Link
+pub mod Reached

@@ -81,7 +81,7 @@ closed-stays ack = (refl, refl)
 closed-stays nackOrRej = (refl, refl)
 closed-stays terminate = (refl, refl)
 
-is-closed : (s : State) → isClosed s ≡ true → s ≡ Closed
+pub is-closed : (s : State) → isClosed s ≡ true → s ≡ Closed
 is-closed Closed e = refl
 is-closed ReqSent e = absurd (false≢true e)
 is-closed AckReceived e = absurd (false≢true e)
@@ -119,7 +119,7 @@ module _ (f : OptionFsm) (i : ℕ) (p : List ℕ) where
           let s = is-closed (f .state) k in
           rw (s, closed-stays e .0, closed-stays e .1) (rw s at (turned-goes f (packetOf (protocolOf (f .proto)) 6 i [] ∷ []) refl))
 
-  req-goes : (v : Verdict) → answer f p .verdict ≡ v → Goes (afterReq (f .state) v) (isOpened (f .state)) (reqOf f i p)
+  pub req-goes : (v : Verdict) → answer f p .verdict ≡ v → Goes (afterReq (f .state) v) (isOpened (f .state)) (reqOf f i p)
   unfolding reqOf reqWith
   req-goes v e =
       cond-all (Goes (afterReq (f .state) v) (isOpened (f .state))) (ltb (length p) 6) (refused-goes _)
@@ -128,14 +128,14 @@ module _ (f : OptionFsm) (i : ℕ) (p : List ℕ) where
       (λ k. rw k (requested-goes (afterReply f (answer f p)) _ refl))
       (λ k. rw k (turned-goes (afterReply f (answer f p)) _ refl)))))
 
-  ack-goes : Goes (afterAck (f .state)) (ackResends (f .state)) (ackOf f)
+  pub ack-goes : Goes (afterAck (f .state)) (ackResends (f .state)) (ackOf f)
   unfolding ackOf
   ack-goes =
       cond-by (Goes (afterAck (f .state)) (ackResends (f .state))) (ackResends (f .state))
       (λ k. rw k (requested-goes (withState f (afterAck (f .state))) [] refl))
       (λ k. rw k (turned-goes (withState f (afterAck (f .state))) [] refl))
 
-  nack-goes : (rej : Bool) → isClosed (f .state) ≡ false → Goes (afterNack (f .state)) (not (isClosed (f .state))) (nackOf f rej p)
+  pub nack-goes : (rej : Bool) → isClosed (f .state) ≡ false → Goes (afterNack (f .state)) (not (isClosed (f .state))) (nackOf f rej p)
   unfolding nackOf nackWith
   nack-goes rej k =
       let n = nacksOf rej (f .proto) (walkOf (drop 6 p)) in

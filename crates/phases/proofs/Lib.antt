@@ -1,3 +1,4 @@
 pub mod Moves
 pub mod OneAnswer
 pub mod Phasing
+pub mod Sounds

@@ -2,9 +2,9 @@
 use framing::frame_reader::Reading;
 use libc::STDIN_FILENO;
 use libc::STDOUT_FILENO;
+use link::pppos::PPPoS;
 use report::feed::feed;
 use report::feed::start;
-use link::pppos::PPPoS;
 use report::status::lines;
 
 struct Step {

@@ -1,0 +1,346 @@
+-- What holds of every record that calls reach: each call keeps it, and a phase step right behind another does nothing.
+-- Assumes nothing.
+use mathlib.Core.Path.{_≡_, refl, ap, sym, subst, _∙_}
+use mathlib.Core.Bool.{Bool, true, false, not, _&&_, or-false, true≢false, false≢true}
+use mathlib.Core.List.{List, []}
+use mathlib.Core.Logic.{_⊎_, inl, inr}
+use Prim.Native.Nat.{ℕ, _+_}
+use lib.Dec.{ltb, eqb}
+use lib.ListN.{length, take, getD}
+use Rattle.laws.proofs.Cases.{apart, by-test, both, cond-by, cond-all}
+use Rattle.negotiation.specs.declared.lcp.AuthType.{AuthType}
+use Rattle.negotiation.specs.declared.lcp.AuthType.the-variants as authType
+use Rattle.negotiation.specs.declared.option_fsm.OptionFsm.{OptionFsm}
+use Rattle.negotiation.specs.declared.pap.Pap.{Pap}
+use Rattle.negotiation.specs.declared.pap.PapState.{PapState}
+use Rattle.negotiation.specs.declared.pap.PapState.the-variants as papState
+use Rattle.phases.specs.declared.ppp.LcpFsm.{LcpFsm}
+use Rattle.phases.specs.declared.ppp.Phase.{Phase}
+use Rattle.phases.specs.declared.ppp.Phase.the-variants.{Dead, Establish, Auth, Network, Open}
+use Rattle.phases.specs.declared.ppp.Ppp.{Ppp}
+use Rattle.negotiation.specs.declared.proto.Verdict.{Verdict}
+use Rattle.negotiation.specs.declared.proto.Verdict.the-variants.{Ack, Nack, Rej}
+use Rattle.negotiation.specs.declared.refusal.Outcome.{Outcome}
+use Rattle.negotiation.specs.declared.refusal.Outcome.the-variants.{Done, Refused}
+use Rattle.negotiation.specs.declared.states.State.{State}
+use Rattle.negotiation.specs.declared.states.State.the-variants.{Closed, ReqSent, AckReceived, AckSent, Opened}
+use Rattle.negotiation.specs.Refusal.{isDone}
+use Rattle.negotiation.specs.Wire.{protocolIn}
+use Rattle.negotiation.specs.Automaton.{afterAcked, afterNotAcked, afterReq, afterAck, afterNack, afterTerm, isClosed, isOpened, Turn, requested, termAckOf, ackOf, reqOf, nackOf, ignoredTurn, echoOf, actOf, lengthField, handleOf, rejectTurn, openedFsm}
+use Rattle.negotiation.specs.Pap.{fitsCredentials, isPapSent, isPapOpened, withPapState, PapTurn, papRequested, papActOf, papHandleOf, openedPap}
+use Rattle.phases.specs.Phases.{freshWith, withPhase, withOpening, withLcp, withPap, withIpv4cp, lcpIn, ipv4cpIn, PppTurn, rejectOf, receivedOf, Step, stepTo, opensLcp, opensIpv4cp, opensPap, closesIpv4cp, closesPap, byAuth, establishOf, authOf, networkOf, settled, phaseOf, pollOf, turnOf, isDead, pppTurned, openOf, newOf}
+use Rattle.phases.specs.Moves.{Calm}
+use Rattle.phases.specs.Sound.{isEstablish, Sound}
+use Rattle.negotiation.proofs.Proper.{proper-handle}
+use Rattle.negotiation.proofs.StateTable.{answer, is-closed, req-goes, ack-goes, nack-goes}
+
+-- ---- by a test
+
+done-is : (o : Outcome) → isDone o ≡ true → o ≡ Done
+done-is Done e = refl
+done-is (Refused why) e = absurd (false≢true e)
+
+closed-shut : (s : State) → isClosed s ≡ true → isOpened s ≡ false
+closed-shut s e = rw (is-closed s e) refl
+
+is-sent : (s : PapState) → isPapSent s ≡ true → s ≡ papState.ReqSent
+is-sent papState.Closed e = absurd (false≢true e)
+is-sent papState.ReqSent e = refl
+is-sent papState.Opened e = absurd (false≢true e)
+
+opened-unsent : (s : PapState) → isPapOpened s ≡ true → isPapSent s ≡ false
+opened-unsent papState.Closed e = refl
+opened-unsent papState.ReqSent e = absurd (false≢true e)
+opened-unsent papState.Opened e = refl
+
+-- ---- one phase's clause gives all
+
+-- and LCP is no longer to be opened
+record Rests (p : Ppp) : Type 0 where
+  sound : Sound p
+  opened : p .opening ≡ false
+
+-- what a phase asks of the other states
+abbrev Own : Phase → Ppp → Type 0
+Own Dead p = Unit {0}
+Own Establish p = (isOpened (p .lcp .state) ≡ false) × (p .ipv4cp .state ≡ Closed) × (p .pap .state ≡ papState.Closed)
+Own Auth p = (p .pap .state ≡ papState.ReqSent) × (p .ipv4cp .state ≡ Closed)
+Own Network p = (isClosed (p .ipv4cp .state) ≡ false) × (isOpened (p .ipv4cp .state) ≡ false) × (isPapSent (p .pap .state) ≡ false)
+Own Open p = isPapSent (p .pap .state) ≡ false
+
+establish-alive : (f : Phase) → (isEstablish f && isDead f) ≡ false
+establish-alive Dead = refl
+establish-alive Establish = refl
+establish-alive Auth = refl
+establish-alive Network = refl
+establish-alive Open = refl
+
+rests-by : (p : Ppp) → p .opening ≡ false → isClosed (p .lcp .state) ≡ isDead (p .phase) → Own (p .phase) p → Rests p
+rests-by p o c own =
+    record {
+      sound =
+          record {
+            opens = let e = establish-alive (p .phase) in cc;
+            closed = let e = or-false (isDead (p .phase)) in cc;
+            establish = λ e _. subst (λ f. Own f p) e own;
+            auth = λ e. subst (λ f. Own f p) e own;
+            network = λ e. let h = subst (λ f. Own f p) e own in (h .0, h .1);
+            past = past;
+          };
+      opened = o;
+    }
+  where
+    past : (p .phase ≡ Network) ⊎ (p .phase ≡ Open) → isPapSent (p .pap .state) ≡ false
+    past (inl e) = subst (λ f. Own f p) e own .2
+    past (inr e) = subst (λ f. Own f p) e own
+
+-- ---- new and open
+
+fresh-sound : (a : Pap) → Sound (freshWith a)
+fresh-sound a = rests-by (freshWith a) refl refl tt .sound
+
+pub sound-new : (name password : List ℕ) → Sound (newOf name password .ppp)
+sound-new name password =
+    cond-all (λ (t : PppTurn). Sound (t .ppp)) (fitsCredentials (length name) (length password)) (fresh-sound _) (fresh-sound _)
+
+pub sound-open : {p : Ppp} → Sound p → Sound (openOf p .ppp)
+sound-open {p} s = cond-by (λ (t : PppTurn). Sound (t .ppp)) (isDead (p .phase)) opened (λ _. s)
+  where
+    waits : (Establish ≡ Network) ⊎ (Establish ≡ Open) → isPapSent (p .pap .state) ≡ false
+    waits (inl e) = apart cc
+    waits (inr e) = apart cc
+
+    opened : isDead (p .phase) ≡ true → Sound (withOpening (withPhase p Establish) true)
+    opened d =
+        let c : isClosed (p .lcp .state) ≡ true = rw d at (s .closed) in
+        record {
+          opens = sym c;
+          closed = c;
+          establish = λ _ o. absurd (true≢false o);
+          auth = λ e. apart cc;
+          network = λ e. apart cc;
+          past = waits;
+        }
+
+-- ---- the states that one packet leads to
+
+-- where s is not Opened, t is Closed exactly if s is: only a TerminateReq in Opened closes
+abbrev Near : State → State → Type 0
+Near s t = isOpened s ≡ false → isClosed t ≡ isClosed s
+
+module _ (after : State → State) (closed : isClosed (after Closed) ≡ true) (sent : isClosed (after ReqSent) ≡ false)
+    (received : isClosed (after AckReceived) ≡ false) (acked : isClosed (after AckSent) ≡ false) where
+  after-near : (s : State) → Near s (after s)
+  after-near Closed _ = closed
+  after-near ReqSent _ = sent
+  after-near AckReceived _ = received
+  after-near AckSent _ = acked
+  after-near Opened e = absurd (true≢false e)
+
+req-near : (s : State) (v : Verdict) → Near s (afterReq s v)
+req-near s Ack = after-near afterAcked refl refl refl refl s
+req-near s Nack = after-near afterNotAcked refl refl refl refl s
+req-near s Rej = after-near afterNotAcked refl refl refl refl s
+
+module _ (f : OptionFsm) where
+  abbrev NearTurn : Turn → Type 0
+  NearTurn t = t .outcome ≡ Done → Near (f .state) (t .fsm .state)
+
+  moved-near : (t : Turn) {to : State} → Near (f .state) to → (t .outcome ≡ Done → t .fsm .state ≡ to) → NearTurn t
+  moved-near t n m d = rw (m d) n
+
+  stays : NearTurn (ignoredTurn f)
+  unfolding ignoredTurn
+  stays _ _ = refl
+
+  act-near : (c i : ℕ) (p : List ℕ) → NearTurn (actOf f c i p)
+  unfolding actOf echoOf termAckOf
+  act-near c i p =
+      let nack : (rej : Bool) → isClosed (f .state) ≡ false → NearTurn (nackOf f rej p)
+      = λ rej k. moved-near (nackOf f rej p) (after-near afterNack refl refl refl refl (f .state)) (λ d. nack-goes f i p rej k d .state) in
+      cond-all NearTurn (eqb c 9)
+      (cond-all NearTurn (isOpened (f .state))
+      (cond-all NearTurn (ltb (length p) 3) (λ _ _. refl) (cond-all NearTurn (ltb 128 (length p)) (λ _ _. refl) (λ _ _. refl)))
+      stays)
+      (cond-all NearTurn (eqb c 11) stays
+      (cond-by NearTurn (isClosed (f .state)) (λ _ _ _. refl)
+      (λ k. cond-all NearTurn (eqb c 1) (moved-near (reqOf f i p) (req-near (f .state) (answer f p .verdict)) (λ d. req-goes f i p (answer f p .verdict) refl d .state))
+      (cond-all NearTurn (eqb c 2) (moved-near (ackOf f) (after-near afterAck refl refl refl refl (f .state)) (λ d. ack-goes f i p d .state))
+      (cond-all NearTurn (eqb c 3) (nack false k)
+      (cond-all NearTurn (eqb c 4) (nack true k)
+      (cond-all NearTurn (eqb c 5) (λ _. after-near afterTerm refl refl refl refl (f .state)) stays)))))))
+
+  done-near : (pkt : List ℕ) → NearTurn (handleOf f pkt)
+  unfolding handleOf
+  done-near pkt =
+      cond-all NearTurn (ltb (length pkt) 6) stays
+      (cond-all NearTurn (ltb (length pkt) (lengthField pkt + 2)) stays (act-near (getD pkt 2 0) (getD pkt 3 0) (take (lengthField pkt + 2) pkt)))
+
+  -- a refused packet leaves the automaton
+  handle-near : (pkt : List ℕ) → Near (f .state) (handleOf f pkt .fsm .state)
+  handle-near pkt =
+      by-test (isDone (handleOf f pkt .outcome)) (λ e. done-near pkt (done-is (handleOf f pkt .outcome) e))
+      (λ e. rw (proper-handle f pkt .left e .0) (λ _. refl))
+
+  reject-near : (pkt : List ℕ) → Near (f .state) (rejectTurn f pkt .fsm .state)
+  unfolding rejectTurn
+  reject-near pkt = cond-all (λ (t : Turn). Near (f .state) (t .fsm .state)) (ltb 122 (length pkt)) (λ _. refl) (λ _. refl)
+
+-- PAP's state stays, or an Ack opens it
+abbrev PapNear : PapState → PapState → Type 0
+PapNear a b = (b ≡ a) ⊎ ((a ≡ papState.ReqSent) × (b ≡ papState.Opened))
+
+pap-near : (p : Pap) (pkt : List ℕ) → PapNear (p .state) (papHandleOf p pkt .pap .state)
+unfolding papHandleOf papActOf papRequested
+pap-near p pkt =
+    let P : PapTurn → Type 0 = λ t. PapNear (p .state) (t .pap .state) in
+    let c = getD pkt 2 0 in
+    let s = isPapSent (p .state) in
+    cond-all P (ltb (length pkt) 6) (inl refl)
+    (cond-all P (ltb (length pkt) (lengthField pkt)) (inl refl)
+    (cond-all P (ltb (length pkt) (lengthField pkt + 2)) (inl refl)
+    (cond-by P (s && eqb c 2) (λ e. inr (is-sent (p .state) (both s (eqb c 2) e .0), refl)) (λ _. cond-all P (s && eqb c 3) (inl refl) (inl refl)))))
+
+stays-closed : {s t : State} → s ≡ Closed → Near s t → t ≡ Closed
+stays-closed {s} {t} e n = is-closed t (n (ap isOpened e) ∙ ap isClosed e)
+
+stays-idle : {a b : PapState} → isPapSent a ≡ false → PapNear a b → b ≡ a
+stays-idle s (inl e) = e
+stays-idle s (inr (e, _)) = absurd (true≢false (sym (ap isPapSent e) ∙ s))
+
+stays-unsent : {a b : PapState} → isPapSent a ≡ false → PapNear a b → isPapSent b ≡ false
+stays-unsent s n = ap isPapSent (stays-idle s n) ∙ s
+
+stays-sent : {a b : PapState} → a ≡ papState.ReqSent → isPapOpened b ≡ false → PapNear a b → b ≡ papState.ReqSent
+stays-sent s o (inl e) = e ∙ s
+stays-sent s o (inr (_, e)) = absurd (true≢false (sym (ap isPapOpened e) ∙ o))
+
+-- ---- what a received packet leaves
+
+record Heard (p q : Ppp) : Type 0 where
+  phase : q .phase ≡ p .phase
+  opening : q .opening ≡ p .opening
+  lcp : Near (p .lcp .state) (q .lcp .state)
+  pap : PapNear (p .pap .state) (q .pap .state)
+  ipv4cp : Near (p .ipv4cp .state) (q .ipv4cp .state)
+
+heard-lcp : (p : Ppp) (a : LcpFsm) → Near (p .lcp .state) (a .state) → Heard p (withLcp p a)
+heard-lcp p a n = record { phase = refl; opening = refl; lcp = n; pap = inl refl; ipv4cp = λ _. refl }
+
+heard-none : (p : Ppp) → Heard p p
+heard-none p = heard-lcp p (p .lcp) (λ _. refl)
+
+received-heard : (p : Ppp) (pkt : List ℕ) → Heard p (receivedOf p pkt .ppp)
+unfolding receivedOf rejectOf
+received-heard p pkt =
+    let P : PppTurn → Type 0 = λ t. Heard p (t .ppp) in
+    let n = protocolIn pkt in
+    cond-all P (ltb (length pkt) 2) (heard-none p)
+    (cond-all P (eqb n 0xC021) (heard-lcp p _ (handle-near (lcpIn (p .lcp)) pkt))
+    (cond-all P (eqb n 0xC023) (record { phase = refl; opening = refl; lcp = λ _. refl; pap = pap-near (p .pap) pkt; ipv4cp = λ _. refl })
+    (cond-all P (eqb n 0x0021) (heard-none p)
+    (cond-all P (eqb n 0x8021) (record { phase = refl; opening = refl; lcp = λ _. refl; pap = inl refl; ipv4cp = handle-near (ipv4cpIn (p .ipv4cp)) pkt })
+    (heard-lcp p _ (reject-near (lcpIn (p .lcp)) pkt))))))
+
+-- ---- what a phase step leaves
+
+settled-rests : (p : Ppp) → p .opening ≡ false → (isDead (p .phase) ≡ true → isClosed (p .lcp .state) ≡ true)
+    → (isClosed (p .lcp .state) ≡ false → Own (p .phase) p) → Rests (settled p)
+settled-rests p o d own =
+    by-test (isClosed (p .lcp .state))
+    (λ c. rw (c, o) (rests-by (withOpening (withPhase p Dead) false) refl c tt))
+    (λ c. rw c (rests-by p o (by-test (isDead (p .phase)) (λ e. absurd (true≢false (sym (d e) ∙ c))) (λ e. c ∙ sym e)) (own c)))
+
+-- of a phase that is not Dead
+alive : {t : Bool} → false ≡ true → t ≡ true
+alive e = absurd (false≢true e)
+
+auth-rests : (p : Ppp) (a : AuthType) → p .opening ≡ false → p .ipv4cp .state ≡ Closed → p .pap .state ≡ papState.Closed → Rests (settled (byAuth a p .ppp))
+unfolding openedFsm requested openedPap papRequested
+auth-rests p authType.None o i a = settled-rests (opensIpv4cp p .ppp) o alive (λ _. (refl, refl, ap isPapSent a))
+auth-rests p authType.Pap o i a = settled-rests (opensPap p .ppp) o alive (λ _. (refl, i))
+
+-- a packet, then a phase step; the phase is an argument of its own, to be taken by cases
+module _ (p q : Ppp) (h : Heard p q) where
+  step-rests : (f : Phase) → Sound (withPhase p f) → Rests (phaseOf (withPhase q f) .ppp)
+  unfolding phaseOf establishOf authOf networkOf openedFsm requested
+  step-rests Dead s =
+      settled-rests (withPhase q Dead) (h .opening ∙ s .opens) (λ _. h .lcp (closed-shut (p .lcp .state) (s .closed)) ∙ s .closed) (λ _. tt)
+  step-rests Establish s =
+      let P : Step → Type 0 = λ t. Rests (settled (t .ppp)) in
+      let r = withPhase q Establish in
+      let shut = by-test (p .opening) (λ o. closed-shut (p .lcp .state) (s .closed ∙ o)) (λ o. s .establish refl o .0) in
+      cond-by P (isClosed (q .lcp .state))
+      (λ _. settled-rests (closesIpv4cp (closesPap (opensLcp r .ppp))) refl alive (λ _. (refl, refl, refl)))
+      (λ c. let o : p .opening ≡ false = s .opens ∙ sym (h .lcp shut) ∙ c in
+      let e = s .establish refl o in
+      cond-by P (isOpened (q .lcp .state))
+      (λ _. auth-rests r (q .lcp .proto .auth) (h .opening ∙ o) (stays-closed (e .1) (h .ipv4cp)) (stays-idle (ap isPapSent (e .2)) (h .pap) ∙ e .2))
+      (λ n. settled-rests (closesIpv4cp (closesPap r)) (h .opening ∙ o) alive (λ _. (n, refl, refl))))
+  step-rests Auth s =
+      let P : Step → Type 0 = λ t. Rests (settled (t .ppp)) in
+      let r = withPhase q Auth in
+      let o = h .opening ∙ s .opens in
+      cond-by P (isPapOpened (q .pap .state))
+      (λ a. settled-rests (opensIpv4cp r .ppp) o alive (λ _. (refl, refl, opened-unsent (q .pap .state) a)))
+      (λ a. settled-rests (closesIpv4cp r) o alive (λ _. (stays-sent (s .auth refl .0) a (h .pap), refl)))
+  step-rests Network s =
+      let r = withPhase q Network in
+      let o = h .opening ∙ s .opens in
+      let n = s .network refl in
+      let unsent = stays-unsent (s .past (inl refl)) (h .pap) in
+      cond-by (λ (t : Ppp). Rests (settled t)) (isOpened (q .ipv4cp .state))
+      (λ _. settled-rests (withPhase q Open) o alive (λ _. unsent))
+      (λ m. settled-rests r o alive (λ _. (h .ipv4cp (n .1) ∙ n .0, m, unsent)))
+  step-rests Open s = settled-rests (withPhase q Open) (h .opening ∙ s .opens) alive (λ _. stays-unsent (s .past (inr refl)) (h .pap))
+
+  heard-rests : Sound p → Rests (phaseOf q .ppp)
+  heard-rests s = subst (λ f. Rests (phaseOf (withPhase q f) .ppp)) (sym (h .phase)) (step-rests (p .phase) s)
+
+-- ---- where a phase step does nothing
+
+closes-ipv4cp : (p : Ppp) → p .ipv4cp .state ≡ Closed → closesIpv4cp p ≡ p
+closes-ipv4cp p e i = withIpv4cp p (record { id = p .ipv4cp .id; state = sym e i; proto = p .ipv4cp .proto })
+
+closes-pap : (p : Ppp) → p .pap .state ≡ papState.Closed → closesPap p ≡ p
+closes-pap p e i = withPap p (withPapState (p .pap) (sym e i))
+
+step-none : (f : Phase) (p : Ppp) → Sound (withPhase p f) → p .opening ≡ false → phaseOf (withPhase p f) ≡ stepTo (withPhase p f) []
+unfolding phaseOf establishOf authOf networkOf
+step-none Dead p s o = cond-all (λ (r : Ppp). stepTo r [] ≡ stepTo (withPhase p Dead) []) (isClosed (p .lcp .state) && not (p .opening)) refl refl
+step-none Establish p s o =
+    let e = s .establish refl o in
+    let r = withPhase p Establish in
+    let c = s .closed ∙ o in
+    rw (c, e .0, c) (ap (λ (r : Ppp). stepTo r []) (closes-ipv4cp (closesPap r) (e .1) ∙ closes-pap r (e .2)))
+step-none Auth p s o =
+    let e = s .auth refl in
+    rw (ap isPapOpened (e .0), s .closed ∙ o) (ap (λ (r : Ppp). stepTo r []) (closes-ipv4cp (withPhase p Auth) (e .1)))
+step-none Network p s o = rw (s .network refl .1, s .closed ∙ o) refl
+step-none Open p s o = rw (s .closed ∙ o) refl
+
+pub calm : {p : Ppp} → Sound p → p .opening ≡ false → Calm p
+calm {p} s o = ap (λ (t : Step). pppTurned (t .ppp) (t .sent)) (step-none (p .phase) p s o)
+
+-- ---- poll and a received packet
+
+pub sound-poll : {p : Ppp} → Sound p → Sound (pollOf p .ppp)
+sound-poll {p} s = heard-rests p p (heard-none p) s .sound
+
+pub sound-turn : {p : Ppp} (pkt : List ℕ) → Sound p → Sound (turnOf p pkt .ppp)
+unfolding turnOf
+sound-turn {p} pkt s =
+    cond-all (λ (t : PppTurn). Sound (t .ppp)) (isDone (receivedOf p pkt .outcome)) (heard-rests p _ (received-heard p pkt) s .sound) s
+
+-- a phase step right behind a phase step does nothing
+pub calm-after : {p : Ppp} → Sound p → Calm (phaseOf p .ppp)
+calm-after {p} s = let r = heard-rests p p (heard-none p) s in calm (r .sound) (r .opened)
+
+-- nor does one behind a packet that was not refused
+pub calm-after-turn : {p : Ppp} (pkt : List ℕ) → Sound p → turnOf p pkt .outcome ≡ Done → Calm (turnOf p pkt .ppp)
+unfolding turnOf
+calm-after-turn {p} pkt s =
+    let t = receivedOf p pkt in
+    let r = heard-rests p (t .ppp) (received-heard p pkt) s in
+    cond-by (λ (x : PppTurn). x .outcome ≡ Done → Calm (x .ppp)) (isDone (t .outcome)) (λ _ _. calm (r .sound) (r .opened))
+    (λ e d. absurd (true≢false (sym (ap isDone d) ∙ e)))
