@@ -1,9 +1,5 @@
-pub mod Answers
 pub mod Automata
 pub mod Judging
-pub mod Layouts
-pub mod Layouts1332
-pub mod Layouts1661
 pub mod Paps
 pub mod Proper
 pub mod Replying

@@ -1,7 +1,4 @@
 pub mod Refusal
-pub mod Rfc1661
-pub mod Rfc1332
-pub mod Rfc1334
 pub mod Wire
 pub mod Options
 pub mod Lcp

@@ -8,15 +8,15 @@ use lib.ListN.{length, take, drop, getD, length-append}
 use lib.Seq.{take-length, take-append-seam, drop-append-seam, take-append-add}
 use Rattle.laws.specs.Be.{beBytes}
 use Rattle.laws.proofs.Be.{be-round}
 use Rattle.negotiation.specs.declared.pap.Pap.{Pap}
 use Rattle.negotiation.specs.declared.proto.Proto.{Proto}
-use Rattle.negotiation.specs.Rfc1334.{Request}
-use Rattle.negotiation.specs.Rfc1661.{Encapsulated, Packet}
+use Rattle.papers.specs.Rfc1334.{Request}
+use Rattle.papers.specs.Rfc1661.{Encapsulated, Packet}
 use Rattle.negotiation.specs.Wire.{packetOf, protocolIn}
 use Rattle.negotiation.specs.Proto.{protocolOf}
 use Rattle.negotiation.specs.Automaton.{nextId, echoBytes, lengthField}
 use Rattle.negotiation.specs.Pap.{nameOf, passwordOf, credentialBytes, papBytes}
 use Rattle.negotiation.proofs.Paps.{credentials-short}
 
 -- ---- RFC 1661: packets
 

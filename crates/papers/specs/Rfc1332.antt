@@ -2,7 +2,7 @@
 use mathlib.Core.Path.{_≡_}
 use Prim.Native.Nat.{ℕ, _^_, _<_}
 use Rattle.laws.specs.Be.{beBytes}
-use Rattle.negotiation.specs.Rfc1661.{Option}
+use Rattle.papers.specs.Rfc1661.{Option}
 
 -- an option of type t with an address of four bytes, and so of length 6
 pub record Address (t : ℕ) (o : Option) (address : ℕ) : Type 0 where

@@ -10,21 +10,21 @@ use lib.Dec.{eqb, ltb, leb}
 use lib.ListN.{length}
 use Rattle.laws.specs.Same.{same}
 use Rattle.laws.proofs.Cases.{by-test, cond-by, cond-ap}
 use Rattle.negotiation.specs.declared.ipv4cp.Ipv4cpJudged.{Ipv4cpJudged}
 use Rattle.negotiation.specs.declared.lcp.LcpJudged.{LcpJudged}
 use Rattle.negotiation.specs.declared.options.Reply.{Reply}
 use Rattle.negotiation.specs.declared.proto.Proto.{Proto}
 use Rattle.negotiation.specs.declared.proto.Proto.the-variants.{Lcp, Ipv4cp}
 use Rattle.negotiation.specs.declared.proto.Verdict.{Verdict}
 use Rattle.negotiation.specs.declared.proto.Verdict.the-variants.{Ack, Nack, Rej}
-use Rattle.negotiation.specs.Rfc1661.{Option, Options, none}
+use Rattle.papers.specs.Rfc1661.{Option, Options, none}
 use Rattle.negotiation.specs.Refusal.{isDone}
 use Rattle.negotiation.specs.Wire.{contentOf}
 use Rattle.negotiation.specs.Options.{optBytes, sentBack, Walk, done, cut, opt, walkOf}
 use Rattle.negotiation.specs.Proto.{judgeOf, ownNacked, nacksOf}
 use Rattle.negotiation.specs.Reply.{rankOf, freshReply, suggestion, listedOf, stepOf, replyOf}
 use Rattle.negotiation.proofs.Wires.{content-pkt}
-use Rattle.negotiation.proofs.Layouts1661.{optionAs, laid-one, laid-both, walkOptions, walk-options, bytesOf, options-bytes, isWhole}
+use Rattle.papers.proofs.Layouts1661.{optionAs, laid-one, laid-both, walkOptions, walk-options, bytesOf, options-bytes, isWhole}
 
 -- ---- the verdict on an option, which no earlier option changes
 

@@ -1,0 +1,3 @@
+pub mod Rfc1661
+pub mod Rfc1332
+pub mod Rfc1334
