@@ -153,6 +153,13 @@ actionNumber (Received from to) = 0
 actionNumber (Transmit n) = 0
 actionNumber (Declined r) = numberOf r
 
+-- how many bytes of the transmit buffer are to be sent
+abbrev pub transmitted : PPPoSAction → ℕ
+transmitted Idle = 0
+transmitted (Received from to) = 0
+transmitted (Transmit n) = n
+transmitted (Declined r) = 0
+
 -- ---- send
 
 -- protocol 0021 before the packet, in every state, with the peer's map

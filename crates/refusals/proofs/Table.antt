@@ -9,9 +9,9 @@ use Rattle.framing.specs.declared.frame_reader.Reading.{Reading}
 use Rattle.phases.specs.Phases.{openOf, newOf}
 use Rattle.phases.specs.declared.ppp.Status.{Status}
 use Rattle.link.specs.Refusal.{outcomeNumber}
-use Rattle.link.specs.Link.{Changes, Consumes, pollLink, Polls, actionNumber, Sends}
+use Rattle.link.specs.Link.{Changes, Consumes, pollLink, Polls, actionNumber, Sends, transmitted}
 use Rattle.report.specs.Lines.{linesOf, Shows}
-use Rattle.refusals.specs.Table.{Exactly, newRows, openRows, consumeRows, sendRows, linesRows, transmitted, pollRows}
+use Rattle.refusals.specs.Table.{Exactly, newRows, openRows, consumeRows, sendRows, linesRows, pollRows}
 use Rattle.link.specs.declared.refusal.Outcome.{Outcome}
 use Rattle.link.specs.declared.pppos.PPPoS.{PPPoS}
 use Rattle.link.specs.declared.pppos.PPPoSAction.{PPPoSAction}

@@ -20,7 +20,6 @@ use Rattle.negotiation.specs.declared.states.State.{State}
 use Rattle.negotiation.specs.declared.states.State.the-variants.{Closed, Opened}
 use Rattle.link.specs.declared.pppos.PPPoS.{PPPoS}
 use Rattle.link.specs.declared.pppos.PPPoSAction.{PPPoSAction}
-use Rattle.link.specs.declared.pppos.PPPoSAction.the-variants.{Idle, Received, Transmit, Declined}
 
 -- ---- rows
 
@@ -251,13 +250,6 @@ pub record Kept : Type 0 where
   pub link : PPPoS
   pub tx : List ℕ
   pub rx : List ℕ
-
--- how many bytes of the transmit buffer are to be sent
-abbrev pub transmitted : PPPoSAction → ℕ
-transmitted Idle = 0
-transmitted (Received from to) = 0
-transmitted (Transmit n) = n
-transmitted (Declined r) = 0
 
 -- the reader moves on as if fetched
 abbrev pub movedOn : PPPoS → PPPoS

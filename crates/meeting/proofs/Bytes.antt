@@ -1,0 +1,142 @@
+-- One byte at an end and, where it completes a frame, the poll behind it; what a poll writes where nothing is refused.
+-- Assumes nothing.
+use mathlib.Core.Path.{_≡_, refl, sym, ap, _∙_}
+use mathlib.Core.Bool.{Bool, true, false, cond}
+use mathlib.Core.List.{List, []}
+use Prim.Native.Nat.{ℕ, _≤_}
+use borrow.Author.Tests.{leb-true, eqb-true, le-ltb}
+use lib.Dec.{leb, eqb}
+use lib.ListN.{length}
+use lib.Seq.{take-append-seam}
+use Rattle.laws.proofs.Cases.{by-test, cond-by, both}
+use Rattle.framing.specs.Reader.{Held, held, step, full, fetched, packetOf}
+use Rattle.framing.specs.Heard.{fetchedIn}
+use Rattle.framing.specs.declared.frame_reader.FrameReader.{FrameReader}
+use Rattle.negotiation.specs.Wire.{protocolIn}
+use Rattle.phases.specs.Phases.{PppTurn, receivedOf, pollOf, turnOf}
+use Rattle.phases.specs.Moves.{Calm}
+use Rattle.phases.specs.declared.ppp.Ppp.{Ppp}
+use Rattle.negotiation.specs.declared.refusal.Outcome.the-variants as negotiation
+use Rattle.link.specs.Refusal.{outcomeNumber}
+use Rattle.link.specs.Frames.{frames}
+use Rattle.link.specs.Link.{linkOf, heldBy, sent, isIp, packetPoll, pollLink, actionNumber, transmitted}
+use Rattle.link.specs.declared.refusal.Outcome.{Outcome}
+use Rattle.link.specs.declared.pppos.PPPoS.{PPPoS}
+use Rattle.link.specs.declared.pppos.PPPoSAction.{PPPoSAction}
+use Rattle.link.proofs.Hearing as hearing
+use Rattle.meeting.specs.Calls.{End, endOf, Answer, behind}
+
+-- ---- one byte
+
+-- an end's reader beside its buffer, and back
+abbrev pub hold : End → Held
+hold e = heldBy (e .link) (e .rx)
+
+abbrev pub joined : Ppp → Held → End
+joined p h = endOf (linkOf (h .reader) p) (h .buf)
+
+abbrev pub feed : End → ℕ → End
+feed e b = joined (e .link .ppp) (step (hold e) b)
+
+-- negotiation's turn on the packet that the reader holds
+abbrev pub turn : End → PppTurn
+turn e = turnOf (e .link .ppp) (packetOf (hold e))
+
+abbrev pub turned : End → End
+turned e = joined (turn e .ppp) (fetchedIn (hold e))
+
+unfoldable pub stepped : End → ℕ → End
+stepped e b = cond (full (step (hold e) b)) (turned (feed e b)) (feed e b)
+
+unfoldable pub says : End → ℕ → List ℕ
+says e b = cond (full (step (hold e) b)) (frames (turn (feed e b) .sent)) []
+
+-- ---- an end that goes well
+
+-- no frame is complete, and a poll does nothing
+pub record Rest (e : End) : Type 0 where
+  pub empty : full (hold e) ≡ false
+  pub within : e .link .«frame_reader» .len ≤ length (e .rx)
+  pub calm : Calm (e .link .ppp)
+
+-- a frame is complete, and negotiation takes its packet
+pub record Takes (e : End) : Type 0 where
+  pub within : e .link .«frame_reader» .len ≤ length (e .rx)
+  pub long : 3 ≤ e .link .«frame_reader» .len
+  pub calm : Calm (e .link .ppp)
+  pub done : turn e .outcome ≡ negotiation.Done
+  pub plain : turn e .echoed ≡ false
+
+-- the byte b may be read
+pub record Byte (e : End) (b : ℕ) : Type 0 where
+  pub rest : Rest e
+  pub ends : full (step (hold e) b) ≡ true → Takes (feed e b)
+
+module _ (e : End) (b : ℕ) where
+  pub stepped-quiet : full (step (hold e) b) ≡ false → stepped e b ≡ feed e b
+  unfolding stepped
+  stepped-quiet f = rw f
+
+  pub says-quiet : full (step (hold e) b) ≡ false → says e b ≡ []
+  unfolding says
+  says-quiet f = rw f
+
+  pub stepped-full : full (step (hold e) b) ≡ true → stepped e b ≡ turned (feed e b)
+  unfolding stepped
+  stepped-full f = rw f
+
+  pub says-full : full (step (hold e) b) ≡ true → says e b ≡ frames (turn (feed e b) .sent)
+  unfolding says
+  says-full f = rw f
+
+-- ---- an IPv4 packet, of which there is none: negotiation takes it for a phase step
+
+ip-turn : (p : Ppp) (x : List ℕ) → isIp x ≡ true → turnOf p x ≡ pollOf p
+unfolding turnOf receivedOf
+ip-turn p x e =
+    let k = both (leb 2 (length x)) (eqb (protocolIn x) 0x0021) e in
+    rw (le-ltb (length x) 2 (leb-true 2 (length x) (k .0)), eqb-true (protocolIn x) 0x0021 (k .1)) refl
+
+-- ---- a poll
+
+sent-count : (n : ℕ) → (actionNumber (sent n) ≡ 0) × (transmitted (sent n) ≡ n)
+sent-count n = cond-by (λ (a : PPPoSAction). (actionNumber a ≡ 0) × (transmitted a ≡ n)) (eqb n 0) (λ e. (refl, sym (eqb-true n 0 e))) (λ _. (refl, refl))
+
+-- the end e after a call with outcome o that consumed n bytes, and a poll that wrote w
+abbrev pub fine : End → Outcome → ℕ → List ℕ → Answer
+fine e o n w = record { now = e; used = n; written = w; first = outcomeNumber o; polled = 0 }
+
+-- all frames are written from the front of the transmit buffer
+pub behind-turned : (l : PPPoS) (tx rx : List ℕ) (h : l .«frame_reader» .len ≤ length rx) (room : 795 ≤ length tx) (o : Outcome) (n : ℕ) (r : FrameReader) (t : PppTurn) → t .echoed ≡ false
+    → behind o n (hearing.turned l tx rx h room r t) ≡ fine (endOf (linkOf r (t .ppp)) rx) o n (frames (t .sent))
+behind-turned l tx rx h room o n r t e =
+    rw (e, sent-count (length (frames (t .sent))) .0, sent-count (length (frames (t .sent))) .1, take-append-seam) refl
+
+module _ (e : End) (tx : List ℕ) (room : 795 ≤ length tx) (o : Outcome) (n : ℕ) where
+  -- where nothing waits a poll leaves all as it is
+  pub rests : Rest e → behind o n (pollLink (e .link) tx (e .rx)) ≡ fine e o n []
+  unfolding frames
+  rests h =
+      let r = e .link .«frame_reader» in
+      ap (behind o n) (hearing.poll-waits (e .link) tx (e .rx) (h .within) room (h .empty))
+      ∙ behind-turned (e .link) tx (e .rx) (h .within) room o n r (pollOf (e .link .ppp)) refl
+      ∙ ap (λ (t : PppTurn). fine (endOf (linkOf r (t .ppp)) (e .rx)) o n (frames (t .sent))) (h .calm)
+
+  -- where a frame waits its packet is answered
+  module _ (f : full (hold e) ≡ true) (h : Takes e) where
+    fetched-is : (p : Ppp) (w : List ℕ) → fine (joined p (held (fetched (e .link .«frame_reader»)) (e .rx))) o n w ≡ fine (joined p (fetchedIn (hold e))) o n w
+    fetched-is p w = ap (λ (k : Bool). fine (joined p (cond k (held (fetched (e .link .«frame_reader»)) (e .rx)) (hold e))) o n w) (sym f)
+
+    handed-out : isIp (packetOf (hold e)) ≡ true → behind o n (pollLink (e .link) tx (e .rx)) ≡ fine (joined (turn e .ppp) (held (fetched (e .link .«frame_reader»)) (e .rx))) o n (frames (turn e .sent))
+    unfolding pollLink packetPoll frames
+    handed-out i =
+        rw (le-ltb (length (e .rx)) (e .link .«frame_reader» .len) (h .within), f, le-ltb (e .link .«frame_reader» .len) 3 (h .long), i, ip-turn (e .link .ppp) (packetOf (hold e)) i ∙ h .calm)
+        refl
+
+    taken : isIp (packetOf (hold e)) ≡ false → behind o n (pollLink (e .link) tx (e .rx)) ≡ fine (joined (turn e .ppp) (held (fetched (e .link .«frame_reader»)) (e .rx))) o n (frames (turn e .sent))
+    taken i =
+        ap (behind o n) (hearing.poll-turns (e .link) tx (e .rx) (h .within) room f (h .long) i (h .done))
+        ∙ behind-turned (e .link) tx (e .rx) (h .within) room o n (fetched (e .link .«frame_reader»)) (turn e) (h .plain)
+
+    pub replies : behind o n (pollLink (e .link) tx (e .rx)) ≡ fine (turned e) o n (frames (turn e .sent))
+    replies = by-test (isIp (packetOf (hold e))) handed-out taken ∙ fetched-is (turn e .ppp) (frames (turn e .sent))

@@ -1,0 +1,10 @@
+pub mod Bytes
+pub mod Diamond
+pub mod Ways
+pub mod Chat
+pub mod Frames
+pub mod Start
+pub mod Finish
+pub mod Meet
+pub mod Contracts
+pub mod Fresh
