@@ -26,6 +26,7 @@ use Rattle.negotiation.specs.declared.ipv4cp.Shown.{Shown}
 use Rattle.negotiation.specs.declared.ipv4cp.Shown.the-variants.{Absent}
 use Rattle.negotiation.specs.declared.states.State.the-variants.{Closed}
 use Rattle.negotiation.specs.declared.option_fsm.OptionFsm.{OptionFsm}
+use Rattle.negotiation.specs.declared.option_fsm.Handled.{Handled}
 use Rattle.negotiation.specs.declared.pap.Pap as pap
 use Rattle.negotiation.specs.declared.pap.PapState.the-variants as papState
 use Rattle.phases.specs.declared.ppp.Phase.{Phase}
@@ -239,6 +240,10 @@ statusOf p =
 
 abbrev pub turnedAs : PppTurn → Turned
 turnedAs t = record { outcome = t .outcome; echoed = t .echoed; ppp = t .ppp; replies = repliesOf (t .sent) }
+
+-- what a step of LCP's automaton comes to
+abbrev pub lcpTurned : Ppp → Handled → Turned
+lcpTurned p h = record { outcome = h .outcome; echoed = h .echoed; ppp = withLcp p (lcpOut (h .fsm) (p .lcp)); replies = h .replies }
 
 abbrev pub steppedAs : Step → Stepped
 steppedAs s = record { ppp = s .ppp; replies = repliesOf (s .sent) }

@@ -2,7 +2,7 @@
 ghost use mathlib.Core.Path.{_≡_};
 ghost use Rattle.negotiation.specs.Automaton.{handleOf};
 ghost use Rattle.negotiation.specs.Pap.{papHandleOf};
-ghost use Rattle.phases.specs.Phases.{freshWith, lcpIn, ipv4cpIn, pppRefused, lcpTurn, papTurn, ipv4cpTurn, rejectOf, receivedOf, isDead, pollOf, turnOf, openOf, newOf, statusOf, turnedAs, Changes, Turns};
+ghost use Rattle.phases.specs.Phases.{freshWith, lcpIn, ipv4cpIn, pppRefused, lcpTurn, lcpTurned, papTurn, ipv4cpTurn, rejectOf, receivedOf, isDead, pollOf, turnOf, openOf, newOf, statusOf, turnedAs, Changes, Turns};
 use crate::slots::ipv4cp_in;
 use crate::slots::ipv4cp_out;
 use crate::slots::lcp_in;
@@ -11,6 +11,7 @@ use negotiation::ipv4cp::Ipv4cp;
 use negotiation::ipv4cp::Shown;
 use negotiation::ipv4cp::show;
 use negotiation::lcp::Lcp;
+use negotiation::option_fsm::Handled;
 use negotiation::pap::Pap;
 use negotiation::pap::is_within;
 use negotiation::refusal::Outcome;
@@ -184,11 +185,11 @@ impl Ppp {
         }
     }
 
-    fn received_lcp(self, pkt: &[u8]) -> Turned
-        ensures { λ t. ⌜ t ≡ turnedAs (lcpTurn self (handleOf (lcpIn (self .lcp)) (now (pkt .entry)))) ⌝ }
+    // What a step of LCP's automaton comes to.
+    fn lcp_turned(self, h: Handled) -> Turned
+        ensures { λ t. ⌜ t ≡ lcpTurned self h ⌝ }
     {
         let a = self.lcp;
-        let h = lcp_in(a).handle(pkt);
         let o = h.outcome;
         let f = h.fsm;
         let r = h.replies;
@@ -198,6 +199,13 @@ impl Ppp {
             ppp: self.with_lcp(lcp_out(f, a)),
             replies: r,
         }
+    }
+
+    fn received_lcp(self, pkt: &[u8]) -> Turned
+        ensures { λ t. ⌜ t ≡ turnedAs (lcpTurn self (handleOf (lcpIn (self .lcp)) (now (pkt .entry)))) ⌝ }
+    {
+        let a = self.lcp;
+        self.lcp_turned(lcp_in(a).handle(pkt))
     }
 
     fn received_pap(self, pkt: &[u8]) -> Turned
@@ -237,16 +245,7 @@ impl Ppp {
         ensures { λ t. ⌜ t ≡ turnedAs (rejectOf self (now (pkt .entry))) ⌝ }
     {
         let a = self.lcp;
-        let h = lcp_in(a).send_protocol_reject(pkt);
-        let o = h.outcome;
-        let f = h.fsm;
-        let r = h.replies;
-        Turned {
-            outcome: o,
-            echoed: h.echoed,
-            ppp: self.with_lcp(lcp_out(f, a)),
-            replies: r,
-        }
+        self.lcp_turned(lcp_in(a).send_protocol_reject(pkt))
     }
 
     fn received(self, pkt: &[u8]) -> Turned

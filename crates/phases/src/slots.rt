@@ -99,45 +99,24 @@ impl Ppp {
     pub(crate) fn with_lcp(self, a: LcpFsm) -> Self
         ensures { λ r. ⌜ r ≡ withLcp self a ⌝ }
     {
-        let f = self.phase;
-        let b = self.pap;
-        let c = self.ipv4cp;
-        Ppp {
-            phase: f,
-            opening: self.opening,
-            lcp: a,
-            pap: b,
-            ipv4cp: c,
-        }
+        let mut p = self;
+        p.lcp = a;
+        p
     }
 
     pub(crate) fn with_pap(self, b: Pap) -> Self
         ensures { λ r. ⌜ r ≡ withPap self b ⌝ }
     {
-        let f = self.phase;
-        let a = self.lcp;
-        let c = self.ipv4cp;
-        Ppp {
-            phase: f,
-            opening: self.opening,
-            lcp: a,
-            pap: b,
-            ipv4cp: c,
-        }
+        let mut p = self;
+        p.pap = b;
+        p
     }
 
     pub(crate) fn with_ipv4cp(self, c: Ipv4cpFsm) -> Self
         ensures { λ r. ⌜ r ≡ withIpv4cp self c ⌝ }
     {
-        let f = self.phase;
-        let a = self.lcp;
-        let b = self.pap;
-        Ppp {
-            phase: f,
-            opening: self.opening,
-            lcp: a,
-            pap: b,
-            ipv4cp: c,
-        }
+        let mut p = self;
+        p.ipv4cp = c;
+        p
     }
 }

@@ -10,13 +10,48 @@ mod word;
 mod world;
 mod writer;
 
-use crate::line::next_line;
-use crate::line::none;
-use crate::line::respond;
-use crate::world::fresh;
+use crate::line::Session;
+use crate::line::feed;
+use crate::line::finish;
+use crate::line::opened;
 
-// At the end of the input a line that no line feed ended is answered too; the empty line has no answer. The turns count down as in
-// `next_line`.
+// Answers the lines that the bytes end, or at the end of the input the last line.
+fn heard(
+    s: Session,
+    got: isize,
+    chunk: &[u8],
+    line: &mut [u8],
+    src: &mut [u8],
+    wbuf: &mut [u8],
+    rbuf: &mut [u8],
+    tx: &mut [u8],
+    rx: &mut [u8],
+    out: &mut [u8],
+) -> Session {
+    if got <= 0 {
+        return finish(s, line, src, wbuf, rbuf, tx, rx, out);
+    }
+    let n = io::count(got, chunk);
+    feed(s, &chunk[..n], line, src, wbuf, rbuf, tx, rx, out)
+}
+
+// Waits for bytes.
+fn turn(
+    s: Session,
+    chunk: &mut [u8],
+    line: &mut [u8],
+    src: &mut [u8],
+    wbuf: &mut [u8],
+    rbuf: &mut [u8],
+    tx: &mut [u8],
+    rx: &mut [u8],
+    out: &mut [u8],
+) -> Session {
+    let got = libc::read(libc::STDIN_FILENO, chunk);
+    heard(s, got, chunk, line, src, wbuf, rbuf, tx, rx, out)
+}
+
+// A proved loop has to end, and nothing says that the input does: the turns count down from a number that no run uses up.
 fn serve(
     chunk: &mut [u8],
     line: &mut [u8],
@@ -27,14 +62,12 @@ fn serve(
     rx: &mut [u8],
     out: &mut [u8],
 ) {
-    let mut w = fresh();
-    let mut l = none();
+    let mut s = opened();
     let mut turns = u64::MAX;
     while turns > 0 {
         turns -= 1;
-        l = next_line(l, chunk, line);
-        w = respond(w, l.len, line, src, wbuf, rbuf, tx, rx, out);
-        if l.over {
+        s = turn(s, chunk, line, src, wbuf, rbuf, tx, rx, out);
+        if s.over {
             return;
         }
     }

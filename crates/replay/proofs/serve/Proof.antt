@@ -6,7 +6,7 @@ use Rattle.replay.proofs.serve.Statement.{statement}
 use Rattle.replay.proofs.serve.Tie as tie
 
 abbrev Inv-loop : tie.InvT-loop
-Inv-loop chunk₀ line₀ src₀ wbuf₀ rbuf₀ tx₀ rx₀ out₀ w₀ l₀ turns₀ chunk line src wbuf rbuf tx rx out w l turns =
+Inv-loop chunk₀ line₀ src₀ wbuf₀ rbuf₀ tx₀ rx₀ out₀ s₀ turns₀ chunk line src wbuf rbuf tx rx out s turns =
     (length chunk ≡ length chunk₀)
     × (length line ≡ length line₀)
     × (length src ≡ length src₀)
@@ -17,13 +17,10 @@ Inv-loop chunk₀ line₀ src₀ wbuf₀ rbuf₀ tx₀ rx₀ out₀ w₀ l₀ tu
     × (length out ≡ length out₀)
 
 abbrev μ-loop : tie.MeasureT-loop
-μ-loop chunk₀ line₀ src₀ wbuf₀ rbuf₀ tx₀ rx₀ out₀ w₀ l₀ turns₀ chunk line src wbuf rbuf tx rx out w l turns = turns
+μ-loop chunk₀ line₀ src₀ wbuf₀ rbuf₀ tx₀ rx₀ out₀ s₀ turns₀ chunk line src wbuf rbuf tx rx out s turns = turns
 
-fresh-requires : tie.Need-fresh-requires Inv-loop μ-loop
-fresh-requires c κs = search needs
-
-none-requires : tie.Need-none-requires Inv-loop μ-loop
-none-requires c κs = search needs
+opened-requires : tie.Need-opened-requires Inv-loop μ-loop
+opened-requires c κs = search needs
 
 loop-holds : tie.Need-loop-holds Inv-loop μ-loop
 loop-holds c = search needs
@@ -31,11 +28,8 @@ loop-holds c = search needs
 sub-turns : tie.Need-sub-turns Inv-loop μ-loop
 sub-turns c = search needs
 
-next-line-requires : tie.Need-next-line-requires Inv-loop μ-loop
-next-line-requires c κs = search needs
-
-respond-requires : tie.Need-respond-requires Inv-loop μ-loop
-respond-requires c κs = search needs
+turn-requires : tie.Need-turn-requires Inv-loop μ-loop
+turn-requires c κs = search needs
 
 same-length : tie.Need-same-length Inv-loop μ-loop
 same-length c = search needs
@@ -103,12 +97,10 @@ serve-spec =
     (tie.spec
     Inv-loop
     μ-loop
-    fresh-requires
-    none-requires
+    opened-requires
     loop-holds
     sub-turns
-    next-line-requires
-    respond-requires
+    turn-requires
     same-length
     same-length-2
     same-length-3

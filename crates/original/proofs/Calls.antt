@@ -1,0 +1,137 @@
+-- The calls of pppos/mod.rs that are neither poll nor send: new, open, status and consume.
+-- Assumes nothing.
+use mathlib.Core.Path.{_≡_, refl, ap, sym, _∙_}
+use mathlib.Core.Bool.{true, false, cond}
+use mathlib.Core.List.{List, []}
+use Prim.Native.Nat.{ℕ, _+_, _-_, _≤_, _<_}
+use native.Mathlib.Omega.{arith}
+use borrow.Author.Tests.{le-leb, le-ltb, ltb-true}
+use lib.Dec.{ltb, eqb, lit≤}
+use lib.ListN.{length}
+use Rattle.laws.specs.Each.{Bytes}
+use Rattle.laws.proofs.Cases.{apart, by-test}
+use Rattle.framing.specs.Reader as reader
+use Rattle.framing.specs.declared.refusal.Outcome.the-variants as framed
+use Rattle.framing.specs.declared.frame_reader.Reading.{Reading}
+use Rattle.framing.specs.declared.frame_reader.FrameReader.{FrameReader}
+use Rattle.negotiation.specs.Automaton.{isOpened}
+use Rattle.negotiation.specs.Ipv4cp.{shown, shownIp}
+use Rattle.negotiation.specs.Pap.{fitsCredentials}
+use Rattle.phases.specs.Phases.{withPhase, newOf, openOf, statusOf}
+use Rattle.negotiation.specs.declared.ipv4cp.IpOption as ip
+use Rattle.phases.specs.declared.ppp.Phase.{Phase}
+use Rattle.phases.specs.declared.ppp.Phase.the-variants.{Dead, Establish, Auth, Network, Open}
+use Rattle.phases.specs.declared.ppp.Ppp.{Ppp}
+use Rattle.negotiation.proofs.Paps.{fits-sum, credentials-held}
+use Rattle.link.specs.Link.{linkOf, Changes, Consumes}
+use Rattle.link.specs.Refusal.{outcomeNumber}
+use Rattle.link.specs.declared.refusal.Refusal.the-variants.{Negotiation}
+use Rattle.negotiation.specs.declared.refusal.Refusal.the-variants.{CredentialsLong}
+use Rattle.link.specs.declared.refusal.Outcome.{Outcome}
+use Rattle.link.specs.declared.refusal.Outcome.the-variants.{Done, Refused}
+use Rattle.link.specs.declared.pppos.PPPoS.{PPPoS}
+use Rattle.original.specs.Run.{Place, returns, panics, nameLong, passwordLong}
+use Rattle.original.specs.Framing.{newReader}
+use Rattle.original.specs.Fsm.{newFsm}
+use Rattle.original.specs.Protocols.{getIp, NoAddr, SomeAddr, newLcp, lcpProtocol, newIpv4cp, ipv4cpProtocol, PapClosed}
+use Rattle.original.specs.Ppp as ppp
+use Rattle.original.specs.Pppos as theirs
+use Rattle.original.specs.View.{viewIp, viewShown, viewStatus, viewLink}
+use Rattle.original.specs.Same.{numberAt, Plain, Lent, SameOpen, SameNew}
+use Rattle.original.proofs.Reader.{same-consume}
+use Rattle.original.proofs.Handle.{opened-is}
+
+-- ---- status
+
+shown-is : (a : ℕ) → cond (eqb a 0) NoAddr (SomeAddr a) ≡ viewShown (shown a)
+shown-is a = by-test (eqb a 0) (λ t. rw t refl) (λ t. rw t refl)
+
+ip-is : (o : ip.IpOption) → getIp (viewIp o) ≡ viewShown (shownIp o)
+ip-is o = by-test (o .«is_rejected») (λ t. rw t refl) (λ t. rw t (shown-is (o .address)))
+
+pub same-status : (l : PPPoS) → theirs.statusLink (viewLink l) ≡ viewStatus (statusOf (l .ppp))
+same-status l =
+    let y = l .ppp .ipv4cp .proto in
+    rw (opened-is (l .ppp .ipv4cp .state))
+    (by-test (isOpened (l .ppp .ipv4cp .state))
+    (λ t. rw (t, ip-is (y .address), shown-is (y .«peer_address»), ip-is (y .«dns_server_1»), ip-is (y .«dns_server_2»)) refl)
+    (λ t. rw t refl))
+
+-- ---- open
+
+open-at : (f : Phase) (r : FrameReader) (p : Ppp) {o : Outcome} {l : PPPoS} → Changes (openOf (withPhase p f)) r o l
+    → SameOpen (theirs.openLink (viewLink (linkOf r (withPhase p f)))) (linkOf r (withPhase p f)) o l
+open-at Dead r p c = (c .outcome, ap viewLink (c .link))
+open-at Establish r p c = (c .outcome, c .link)
+open-at Auth r p c = (c .outcome, c .link)
+open-at Network r p c = (c .outcome, c .link)
+open-at Open r p c = (c .outcome, c .link)
+
+pub same-open : (l : PPPoS) {o : Outcome} {l′ : PPPoS} → Changes (openOf (l .ppp)) (l .«frame_reader») o l′ → SameOpen (theirs.openLink (viewLink l)) l o l′
+same-open l c = open-at (l .ppp .phase) (l .«frame_reader») (l .ppp) c
+
+-- ---- consume
+
+pub same-consume-link : (l : PPPoS) (rx bs : List ℕ) → Plain l → Lent l rx → Bytes bs → {o : Outcome} {n : ℕ} {l′ : PPPoS} {rx′ : List ℕ} → Consumes l rx bs o n l′ rx′
+    → (o ≡ Done) × (theirs.consumeLink (viewLink l) bs rx ≡ returns (record { count = n; link = viewLink l′; rx = rx′ }))
+same-consume-link l rx bs plain lent given c =
+    let h = le-ltb (length rx) (l .«frame_reader» .len) (lent .room) in
+    let run =
+    same-consume (l .«frame_reader») rx bs (plain .crate-reading) (lent .room) (lent .slice) (lent .bytes) given {o = framed.Done}
+    (record { number = rw h refl; count = refl; reader = refl; bytes = refl }) in
+    (c .outcome ∙ rw h refl, rw (run, c .count, c .link, c .bytes) refl)
+
+-- ---- new
+
+-- what new of the original gives
+abbrev made : List ℕ → List ℕ → theirs.PPPoS
+made name password =
+    record {
+      frameReader = newReader;
+      ppp = record { phase = ppp.Dead; opening = false; lcp = newFsm lcpProtocol newLcp; pap = record { state = PapClosed; id = 1; username = name; password = password }; ipv4cp = newFsm ipv4cpProtocol newIpv4cp };
+    }
+
+fits-is : (n m : ℕ) → n + m ≤ 120 → fitsCredentials n m ≡ true
+fits-is n m h = rw (le-leb n 120 (omega arith), le-leb m (120 - n) (omega arith)) refl
+
+fits-not : (n m : ℕ) → 120 < n + m → fitsCredentials n m ≡ false
+fits-not n m h = by-test (fitsCredentials n m) (λ t. absurd (omega (arith, fits-sum n m t))) (λ t. t)
+
+fresh-is : (name password : List ℕ) (k : Reading) → length name + length password ≤ 120
+    → theirs.newLink name password ≡ returns (viewLink (linkOf (reader.freshReader k) (newOf name password .ppp)))
+fresh-is name password k h =
+    let held = credentials-held name password h in
+    rw (le-ltb 255 (length name) (omega arith), le-ltb 255 (length password) (omega arith), fits-is (length name) (length password) h, held .0, held .1) refl
+
+module _ (name password : List ℕ) (k : Reading) {o : Outcome} {l : PPPoS} (c : Changes (newOf name password) (reader.freshReader k) o l) where
+  new-fits : length name + length password ≤ 120 → (o ≡ Done) × (theirs.newLink name password ≡ returns (viewLink l))
+  new-fits h =
+      (c .outcome ∙ rw (fits-is (length name) (length password) h) refl, fresh-is name password k h ∙ ap returns (sym (ap viewLink (c .link))))
+
+  new-over : 120 < length name + length password → (o ≡ Refused (Negotiation CredentialsLong)) × (theirs.newLink [] [] ≡ returns (viewLink l))
+  new-over h =
+      let e = fits-not (length name) (length password) h in
+      let link : l ≡ linkOf (reader.freshReader k) (newOf [] [] .ppp) = c .link ∙ rw e refl in
+      (c .outcome ∙ rw e refl, fresh-is [] [] k (lit≤ tt) ∙ ap returns (sym (ap viewLink link)))
+
+  new-panics : {p : Place} → theirs.newLink name password ≡ panics p → outcomeNumber o ≡ numberAt p
+  new-panics {p} e =
+      by-test (ltb 255 (length name))
+      (λ t.
+      let z : theirs.newLink name password ≡ panics nameLong = rw t refl in
+      let q : p ≡ nameLong = cc in
+      four (omega (arith, ltb-true 255 (length name) t)) ∙ sym (ap numberAt q))
+      (λ t. by-test (ltb 255 (length password))
+      (λ u.
+      let z : theirs.newLink name password ≡ panics passwordLong = rw (t, u) refl in
+      let q : p ≡ passwordLong = cc in
+      four (omega (arith, ltb-true 255 (length password) u)) ∙ sym (ap numberAt q))
+      (λ u.
+      let z : theirs.newLink name password ≡ returns (made name password) = rw (t, u) refl in
+      apart (cc)))
+    where
+      four : 120 < length name + length password → outcomeNumber o ≡ 4
+      four h = ap outcomeNumber (new-over h .0)
+
+  pub same-new : SameNew name password o l
+  same-new = record { fits = new-fits; over = new-over; panicked = new-panics }

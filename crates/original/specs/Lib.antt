@@ -1,0 +1,10 @@
+pub mod Run
+pub mod Crc
+pub mod Framing
+pub mod Wire
+pub mod Fsm
+pub mod Protocols
+pub mod Ppp
+pub mod Pppos
+pub mod View
+pub mod Same
