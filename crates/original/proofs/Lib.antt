@@ -11,6 +11,7 @@ pub mod Handle
 pub mod Protocols
 pub mod Pap
 pub mod Received
+pub mod Opening
 pub mod Phases
 pub mod Poll
 pub mod Polls

@@ -1,12 +1,12 @@
 -- poll of ppp/mod.rs is our phase step, but for the two asserts of open, where ours opens as if Closed.
 -- Assumes nothing.
-use mathlib.Core.Path.{_≡_, refl, ap, sym, _∙_}
-use mathlib.Core.Bool.{Bool, true, false, not, _&&_}
-use mathlib.Core.List.{List, [], _∷_}
+use mathlib.Core.Path.{_≡_, refl}
+use mathlib.Core.Bool.{Bool, true, false}
+use mathlib.Core.List.{[], _∷_}
 use Prim.Native.Nat.{ℕ, _+_, _<_}
 use native.Mathlib.Nat.{mod-lt}
 use lib.Dec.{lit<}
-use Rattle.laws.proofs.Cases.{by-test, cond-ap, cond-all}
+use Rattle.laws.proofs.Cases.{by-test}
 use Rattle.negotiation.specs.Automaton.{isClosed, isOpened, nextId, requested, openedFsm}
 use Rattle.negotiation.specs.Pap as pap
 use Rattle.negotiation.specs.Pap.{openedPap, papRequested, withPapState, steppedPap}
@@ -22,89 +22,19 @@ use Rattle.negotiation.specs.declared.pap.PapState as papState
 use Rattle.phases.specs.declared.ppp.Phase.{Phase}
 use Rattle.phases.specs.declared.ppp.Phase.the-variants.{Dead, Establish, Auth, Network, Open}
 use Rattle.phases.specs.declared.ppp.Ppp as ppp
-use Rattle.original.specs.Run.{Place, Run, returns, panics, fsmOpen}
-use Rattle.original.specs.Wire.{Packet, Options, PPP}
+use Rattle.original.specs.Run.{returns, panics, fsmOpen}
 use Rattle.original.specs.Fsm as fsm
 use Rattle.original.specs.Protocols.{lcpProtocol, ipv4cpProtocol, openPap, isPapOpened, sendPapRequest}
 use Rattle.original.specs.Ppp as theirs
-use Rattle.original.specs.View.{viewState, viewPapState, viewLcp, viewIpv4cp, viewPap, viewPpp}
-use Rattle.original.specs.Same.{Asserts, ipv4cpOpened, papOpened, asIfClosed}
-use Rattle.original.proofs.Frames.{Carried, none, more}
-use Rattle.original.proofs.Automaton.{request-sent, request-carries}
+use Rattle.original.specs.View.{viewState, viewLcp, viewIpv4cp, viewPap, viewPpp}
+use Rattle.original.specs.Same.{ipv4cpOpened, papOpened}
+use Rattle.original.proofs.Frames.{none, more}
+use Rattle.original.proofs.Automaton.{request-carries}
 use Rattle.original.proofs.Handle.{closed-is, opened-is}
 use Rattle.original.proofs.Protocols.{lcp-stands, ipv4cp-stands}
 use Rattle.original.proofs.Pap as credentials
 use Rattle.original.proofs.Received.{Held}
-
--- a step of the original leaves and sends what ours does
-pub record Steps (s : theirs.Polled) (t : ours.Step) : Type 0 where
-  pub ppp : s .ppp ≡ viewPpp (t .ppp)
-  pub held : Held (t .ppp)
-  pub carried : Carried (s .tx) (t .sent)
-
-pub data SamePhase (p : ppp.Ppp) : Run theirs.Polled → Type 0 where
-  same : {s : theirs.Polled} → Steps s (ours.phaseOf p) → SamePhase p (returns s)
-  asserts : {place : Place} (a : Asserts place) {s : theirs.Polled} → theirs.pollPpp (asIfClosed a (viewPpp p)) ≡ returns s → Steps s (ours.phaseOf p) → SamePhase p (panics place)
-
--- ---- opening and closing
-
-lcpPacket : ℕ → lcp.Lcp → Packet
-lcpPacket i x = fsm.packetOf lcpProtocol (PPP 1 (nextId i) (Options (lcp-stands .own x .opts)))
-
-ipv4cpPacket : ℕ → ipv4cp.Ipv4cp → Packet
-ipv4cpPacket i x = fsm.packetOf ipv4cpProtocol (PPP 1 (nextId i) (Options (ipv4cp-stands .own x .opts)))
-
-open-lcp : (i : ℕ) (x : lcp.Lcp)
-    → fsm.openFsm lcpProtocol (record { id = i; state = fsm.Closed; proto = viewLcp x }) ≡ returns (record { fsm = record { id = nextId i; state = fsm.ReqSent; proto = viewLcp x }; packet = lcpPacket i x })
-unfolding fsm.openFsm lcpPacket
-open-lcp i x = request-sent lcpProtocol proto.Lcp viewLcp lcp-stands i ReqSent x
-
-open-ipv4cp : (i : ℕ) (x : ipv4cp.Ipv4cp)
-    → fsm.openFsm ipv4cpProtocol (record { id = i; state = fsm.Closed; proto = viewIpv4cp x }) ≡ returns (record { fsm = record { id = nextId i; state = fsm.ReqSent; proto = viewIpv4cp x }; packet = ipv4cpPacket i x })
-unfolding fsm.openFsm ipv4cpPacket
-open-ipv4cp i x = request-sent ipv4cpProtocol proto.Ipv4cp viewIpv4cp ipv4cp-stands i ReqSent x
-
--- not Closed: the assert
-opens-not : {P : Type 0} (T : fsm.Protocol P) (f : fsm.OptionFsm P) → fsm.isClosed (f .state) ≡ false → fsm.openFsm T f ≡ panics fsmOpen
-unfolding fsm.openFsm
-opens-not T f e = rw e refl
-
-pap-opened-is : (s : papState.PapState) → isPapOpened (viewPapState s) ≡ pap.isPapOpened s
-pap-opened-is papState.the-variants.Closed = refl
-pap-opened-is papState.the-variants.ReqSent = refl
-pap-opened-is papState.the-variants.Opened = refl
-
-settle-is : (q : ppp.Ppp) → theirs.settle (viewPpp q) ≡ viewPpp (ours.settled q)
-settle-is q = rw (closed-is (q .lcp .state)) (sym (cond-ap viewPpp (isClosed (q .lcp .state) && not (q .opening)) (ours.withPhase q Dead) q))
-
-settled-held : (q : ppp.Ppp) → Held q → Held (ours.settled q)
-settled-held q h = cond-all Held (isClosed (q .lcp .state) && not (q .opening)) (record { lcp-id = h .lcp-id; ipv4cp-id = h .ipv4cp-id; pap = h .pap }) h
-
--- where a step before the last test has come to
-ends : (q : ppp.Ppp) {tx : List Packet} {sent : List (List ℕ)} → Held q → Carried tx sent
-    → Steps (record { ppp = theirs.settle (viewPpp q); tx = tx }) (ours.stepTo (ours.settled q) sent)
-ends q h c = record { ppp = settle-is q; held = settled-held q h; carried = c }
-
-shut-pap : (q : ppp.Ppp) → theirs.shutPap (viewPpp q) ≡ viewPpp (ours.closesPap q)
-shut-pap q = go (q .pap .state) refl
-  where
-    go : (s : papState.PapState) → q .pap .state ≡ s → theirs.shutPap (viewPpp q) ≡ viewPpp (ours.closesPap q)
-    go papState.the-variants.Closed e = rw e refl
-    go papState.the-variants.ReqSent e = rw e refl
-    go papState.the-variants.Opened e = rw e refl
-
-shut-ipv4cp : (q : ppp.Ppp) → theirs.shutIpv4cp (viewPpp q) ≡ viewPpp (ours.closesIpv4cp q)
-shut-ipv4cp q = go (q .ipv4cp .state) refl
-  where
-    go : (s : State) → q .ipv4cp .state ≡ s → theirs.shutIpv4cp (viewPpp q) ≡ viewPpp (ours.closesIpv4cp q)
-    go Closed e = rw e refl
-    go ReqSent e = rw e refl
-    go AckReceived e = rw e refl
-    go AckSent e = rw e refl
-    go Opened e = rw e refl
-
-shut-both : (q : ppp.Ppp) → theirs.shutIpv4cp (theirs.shutPap (viewPpp q)) ≡ viewPpp (ours.closesIpv4cp (ours.closesPap q))
-shut-both q = ap theirs.shutIpv4cp (shut-pap q) ∙ shut-ipv4cp (ours.closesPap q)
+use Rattle.original.proofs.Opening.{Steps, SamePhase, same, asserts, lcpPacket, ipv4cpPacket, open-lcp, open-ipv4cp, opens-not, pap-opened-is, ends, shut-ipv4cp, shut-both}
 
 -- ---- by phase
 
@@ -117,9 +47,6 @@ next-small i = mod-lt (i + 1) {m = 256} (lit< tt)
 module _ (o : Bool) (i : ℕ) (s : State) (x : lcp.Lcp) (c : papRecord.Pap) (j : ℕ) (y : ipv4cp.Ipv4cp) (hi : i < 256) (hc : credentials.Held c) (hj : j < 256) where
   any-held : (f : Phase) (o : Bool) (i j : ℕ) (s t : State) (x : lcp.Lcp) (y : ipv4cp.Ipv4cp) → i < 256 → j < 256 → Held (at f o i s x c j t y)
   any-held f o i j s t x y h k = record { lcp-id = h; ipv4cp-id = k; pap = hc }
-
-  closed-pap : credentials.Held (withPapState c papState.the-variants.Closed)
-  closed-pap = record { id = hc .id; bytes = hc .bytes }
 
   abbrev Goal : Phase → State → Type 0
   Goal f t = SamePhase (at f o i s x c j t y) (theirs.pollPpp (viewPpp (at f o i s x c j t y)))

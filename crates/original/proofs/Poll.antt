@@ -29,7 +29,8 @@ use Rattle.original.specs.View.{viewReader, viewPpp, viewLink, asAction}
 use Rattle.original.specs.Same.{asIfClosed, SamePoll, same, full, opens}
 use Rattle.original.proofs.Frames.{pollWriter, transmit-all}
 use Rattle.original.proofs.Received.{Held}
-use Rattle.original.proofs.Phases as phases
+use Rattle.original.proofs.Opening as opening
+use Rattle.original.proofs.Phases.{phase-same}
 
 -- the count as an action
 sent-is : (n : ℕ) → ours.sent n ≡ asAction (cond (eqb n 0) theirs.None (theirs.Transmit n))
@@ -49,7 +50,7 @@ module _ (l : PPPoS) (tx rx : List ℕ) (r : FrameReader) (q : Ppp) (held : Held
   w = pollWriter (sets tx 0 (frames pre)) (length (frames pre)) c
 
   -- the phase step from P sends and leaves what ours does
-  ran : (P : ppp.Ppp) (s : ppp.Polled) → ppp.pollPpp P ≡ returns s → phases.Steps s (phaseOf q)
+  ran : (P : ppp.Ppp) (s : ppp.Polled) → ppp.pollPpp P ≡ returns s → opening.Steps s (phaseOf q)
       → SamePoll l tx rx (theirs.pollRest (record { frameReader = viewReader r; ppp = P }) w (ours.echoedIn e rx)) (ours.answered l r turn tx rx)
   unfolding theirs.pollRest ours.answered
   ran P s run steps =
@@ -70,9 +71,9 @@ module _ (l : PPPoS) (tx rx : List ℕ) (r : FrameReader) (q : Ppp) (held : Held
   -- the rest of a poll, where the original has come to it
   pub rest-same : theirs.poll (viewLink l) tx rx ≡ theirs.pollRest (viewLink (ours.linkOf r q)) w (ours.echoedIn e rx)
       → SamePoll l tx rx (theirs.pollRest (viewLink (ours.linkOf r q)) w (ours.echoedIn e rx)) (ours.answered l r turn tx rx)
-  rest-same come = go (ppp.pollPpp (viewPpp q)) refl (phases.phase-same q held)
+  rest-same come = go (ppp.pollPpp (viewPpp q)) refl (phase-same q held)
     where
-      go : (x : Run ppp.Polled) → ppp.pollPpp (viewPpp q) ≡ x → phases.SamePhase q x
+      go : (x : Run ppp.Polled) → ppp.pollPpp (viewPpp q) ≡ x → opening.SamePhase q x
           → SamePoll l tx rx (theirs.pollRest (viewLink (ours.linkOf r q)) w (ours.echoedIn e rx)) (ours.answered l r turn tx rx)
-      go x k (phases.same {s} steps) = ran (viewPpp q) s k steps
-      go x k (phases.asserts {place} a {s} run steps) = rw (rest-stops (viewLink (ours.linkOf r q)) w (ours.echoedIn e rx) k) (opens a (viewLink (ours.linkOf r q)) w (ours.echoedIn e rx) come (ran (asIfClosed a (viewPpp q)) s run steps))
+      go x k (opening.same {s} steps) = ran (viewPpp q) s k steps
+      go x k (opening.asserts {place} a {s} run steps) = rw (rest-stops (viewLink (ours.linkOf r q)) w (ours.echoedIn e rx) k) (opens a (viewLink (ours.linkOf r q)) w (ours.echoedIn e rx) come (ran (asIfClosed a (viewPpp q)) s run steps))

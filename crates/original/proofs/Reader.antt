@@ -17,14 +17,15 @@ use Rattle.framing.specs.declared.frame_reader.State as reading
 use Rattle.framing.specs.declared.frame_reader.Reading.the-variants.{Crate}
 use Rattle.framing.specs.declared.frame_reader.FrameReader as reader
 use Rattle.framing.specs.declared.frame_reader.Got.{Got}
-use Rattle.framing.specs.declared.frame_reader.Got.the-variants.{Packet, Refused, Nothing}
+use Rattle.framing.specs.declared.frame_reader.Got.the-variants.{Packet, Nothing}
 use Rattle.framing.specs.declared.refusal.Outcome.{Outcome}
 use Rattle.framing.proofs.OneAnswer.{gots-differ}
 use Rattle.framing.proofs.Reader.{Kept, step-kept, fed-left-le, consumed-fed}
 use Rattle.original.specs.Run.{Run, returns, _>>=_}
 use Rattle.original.specs.Crc.{crc16}
-use Rattle.original.specs.Framing.{FrameReader, Fed, feedIn, endOf, fedTo, storeOf, usizeMax, isComplete, consumeFrom, consume, Fetch, nothing, range, receive, Start, Address, Data, Complete, Consumed}
+use Rattle.original.specs.Framing.{FrameReader, Fed, feedIn, endOf, fedTo, storeOf, usizeMax, isComplete, consumeFrom, consume, nothing, range, receive, Start, Address, Data, Complete, Consumed}
 use Rattle.original.specs.View.{viewReading, viewReader}
+use Rattle.original.specs.Same.{fetchOf}
 use Rattle.original.proofs.Crc.{same-crc16}
 use Rattle.original.proofs.Bytes.{each-take, each-set}
 
@@ -166,11 +167,6 @@ module _ (r : reader.FrameReader) (buf bs : List ℕ) (crate : r .reading ≡ Cr
       ∙ rw (c .count, c .reader, c .bytes, now) (let e : 0 + (length bs - length (ours.fed (ours.held r buf) bs .left)) ≡ length bs - length (ours.fed (ours.held r buf) bs .left) = omega arith in rw e refl)
 
 -- what our receive promises: the packet's range, or nothing; a complete frame with under three bytes kept is refusal 5 here
-abbrev fetchOf : Got → FrameReader → Fetch
-fetchOf (Packet from to) r = range from to r
-fetchOf (Refused why) r = nothing r
-fetchOf Nothing r = nothing r
-
 pub receive-is : (r : reader.FrameReader) → (ours.isComplete (r .state) ≡ true → 3 ≤ r .len)
     → receive (viewReader r) ≡ returns (cond (ours.isComplete (r .state)) (range 1 (r .len - 2) (viewReader (ours.fetched r))) (nothing (viewReader r)))
 unfolding receive

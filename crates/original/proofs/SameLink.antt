@@ -19,7 +19,10 @@ use Rattle.link.specs.declared.pppos.PPPoS.{PPPoS}
 use Rattle.link.specs.declared.pppos.PPPoSAction.{PPPoSAction}
 use Rattle.original.specs.Pppos as theirs
 use Rattle.original.specs.View.{viewLink}
-use Rattle.original.specs.Same.{Plain, Lent, SamePoll, SameLink}
+use Rattle.original.specs.Same.{SameFraming, Plain, Lent, SamePoll, SameLink}
+use Rattle.original.proofs.Crc.{same-crc16}
+use Rattle.original.proofs.Writer.{same-start, same-append, same-finish}
+use Rattle.original.proofs.Reader.{same-consume, same-receive}
 use Rattle.original.proofs.Calls.{same-new, same-open, same-status, same-consume-link}
 use Rattle.original.proofs.Link.{same-poll}
 use Rattle.original.proofs.Send.{same-send}
@@ -43,6 +46,19 @@ consume-short : (l : PPPoS) (rx bs : List ℕ) → length rx < l .«frame_reader
 consume-short l rx bs h c =
     let e = consumed-short (heldBy l rx) bs h in
     (c .outcome ∙ rw (lt-ltb (length rx) (l .«frame_reader» .len) h) refl, c .count ∙ rw (e, sub-self) refl, c .link ∙ rw e refl, c .bytes ∙ rw e refl)
+
+pub same-framing : SameFraming
+same-framing =
+    record {
+      check-value = same-crc16;
+      new-writer = λ m buf. refl;
+      start-frame = same-start;
+      append-bytes = same-append;
+      finish-frame = same-finish;
+      new-reader = refl;
+      consume-bytes = same-consume;
+      receive-packet = same-receive;
+    }
 
 pub same-link : SameLink
 same-link =
