@@ -1,6 +1,6 @@
 -- One byte at an end and, where it completes a frame, the poll behind it; what a poll writes where nothing is refused.
 -- Assumes nothing.
-use mathlib.Core.Path.{_≡_, refl, sym, ap, _∙_}
+use mathlib.Core.Path.{_≡_, refl, sym, ap, _∙_, subst}
 use mathlib.Core.Bool.{Bool, true, false, cond}
 use mathlib.Core.List.{List, []}
 use Prim.Native.Nat.{ℕ, _≤_}
@@ -122,21 +122,23 @@ module _ (e : End) (tx : List ℕ) (room : 795 ≤ length tx) (o : Outcome) (n :
       ∙ behind-turned (e .link) tx (e .rx) (h .within) room o n r (pollOf (e .link .ppp)) refl
       ∙ ap (λ (t : PppTurn). fine (endOf (linkOf r (t .ppp)) (e .rx)) o n (frames (t .sent))) (h .calm)
 
-  -- where a frame waits its packet is answered
-  module _ (f : full (hold e) ≡ true) (h : Takes e) where
-    fetched-is : (p : Ppp) (w : List ℕ) → fine (joined p (held (fetched (e .link .«frame_reader»)) (e .rx))) o n w ≡ fine (joined p (fetchedIn (hold e))) o n w
-    fetched-is p w = ap (λ (k : Bool). fine (joined p (cond k (held (fetched (e .link .«frame_reader»)) (e .rx)) (hold e))) o n w) (sym f)
+  -- where a frame waits its packet is answered, and h is what the reader holds then
+  abbrev Replied : Held → Type 0
+  Replied h = behind o n (pollLink (e .link) tx (e .rx)) ≡ fine (joined (turn e .ppp) h) o n (frames (turn e .sent))
 
-    handed-out : isIp (packetOf (hold e)) ≡ true → behind o n (pollLink (e .link) tx (e .rx)) ≡ fine (joined (turn e .ppp) (held (fetched (e .link .«frame_reader»)) (e .rx))) o n (frames (turn e .sent))
+  module _ (f : full (hold e) ≡ true) (h : Takes e) where
+    handed-out : isIp (packetOf (hold e)) ≡ true → Replied (held (fetched (e .link .«frame_reader»)) (e .rx))
     unfolding pollLink packetPoll frames
     handed-out i =
-        rw (le-ltb (length (e .rx)) (e .link .«frame_reader» .len) (h .within), f, le-ltb (e .link .«frame_reader» .len) 3 (h .long), i, ip-turn (e .link .ppp) (packetOf (hold e)) i ∙ h .calm)
-        refl
+        let r = e .link .«frame_reader» in
+        rw (le-ltb (length (e .rx)) (r .len) (h .within), f, le-ltb (r .len) 3 (h .long), i, ip-turn (e .link .ppp) (packetOf (hold e)) i ∙ h .calm) refl
 
-    taken : isIp (packetOf (hold e)) ≡ false → behind o n (pollLink (e .link) tx (e .rx)) ≡ fine (joined (turn e .ppp) (held (fetched (e .link .«frame_reader»)) (e .rx))) o n (frames (turn e .sent))
+    taken : isIp (packetOf (hold e)) ≡ false → Replied (held (fetched (e .link .«frame_reader»)) (e .rx))
     taken i =
         ap (behind o n) (hearing.poll-turns (e .link) tx (e .rx) (h .within) room f (h .long) i (h .done))
         ∙ behind-turned (e .link) tx (e .rx) (h .within) room o n (fetched (e .link .«frame_reader»)) (turn e) (h .plain)
 
     pub replies : behind o n (pollLink (e .link) tx (e .rx)) ≡ fine (turned e) o n (frames (turn e .sent))
-    replies = by-test (isIp (packetOf (hold e))) handed-out taken ∙ fetched-is (turn e .ppp) (frames (turn e .sent))
+    replies =
+        let t = held (fetched (e .link .«frame_reader»)) (e .rx) in
+        subst (λ (k : Bool). Replied (cond k t (hold e))) (sym f) (by-test (isIp (packetOf (hold e))) handed-out taken)
