@@ -13,6 +13,7 @@ use Rattle.laws.proofs.Cases.{apart, by-test}
 use Rattle.framing.specs.Reader as reader
 use Rattle.framing.specs.declared.refusal.Outcome.the-variants as framed
 use Rattle.framing.specs.declared.frame_reader.Reading.{Reading}
+use Rattle.framing.specs.declared.frame_reader.Reading.the-variants.{Crate}
 use Rattle.framing.specs.declared.frame_reader.FrameReader.{FrameReader}
 use Rattle.negotiation.specs.Automaton.{isOpened}
 use Rattle.negotiation.specs.Ipv4cp.{shown, shownIp}
@@ -61,7 +62,7 @@ same-status l =
 
 open-at : (f : Phase) (r : FrameReader) (p : Ppp) {o : Outcome} {l : PPPoS} → Changes (openOf (withPhase p f)) r o l
     → SameOpen (theirs.openLink (viewLink (linkOf r (withPhase p f)))) (linkOf r (withPhase p f)) o l
-open-at Dead r p c = (c .outcome, ap viewLink (c .link))
+open-at Dead r p c = (c .outcome, ap viewLink (c .link), ap (λ (x : PPPoS). x .«frame_reader») (c .link))
 open-at Establish r p c = (c .outcome, c .link)
 open-at Auth r p c = (c .outcome, c .link)
 open-at Network r p c = (c .outcome, c .link)
@@ -73,13 +74,13 @@ same-open l c = open-at (l .ppp .phase) (l .«frame_reader») (l .ppp) c
 -- ---- consume
 
 pub same-consume-link : (l : PPPoS) (rx bs : List ℕ) → Plain l → Lent l rx → Bytes bs → {o : Outcome} {n : ℕ} {l′ : PPPoS} {rx′ : List ℕ} → Consumes l rx bs o n l′ rx′
-    → (o ≡ Done) × (theirs.consumeLink (viewLink l) bs rx ≡ returns (record { count = n; link = viewLink l′; rx = rx′ }))
+    → (o ≡ Done) × (theirs.consumeLink (viewLink l) bs rx ≡ returns (record { count = n; link = viewLink l′; rx = rx′ })) × (l′ .«frame_reader» .reading ≡ Crate)
 same-consume-link l rx bs plain lent given c =
     let h = le-ltb (length rx) (l .«frame_reader» .len) (lent .room) in
     let run =
     same-consume (l .«frame_reader») rx bs (plain .crate-reading) (lent .room) (lent .slice) (lent .bytes) given {o = framed.Done}
     (record { number = rw h refl; count = refl; reader = refl; bytes = refl }) in
-    (c .outcome ∙ rw h refl, rw (run, c .count, c .link, c .bytes) refl)
+    (c .outcome ∙ rw h refl, rw (run .0, c .count, c .link, c .bytes) refl, rw (c .link) (run .1))
 
 -- ---- new
 
@@ -103,16 +104,19 @@ fresh-is name password k h =
     let held = credentials-held name password h in
     rw (le-ltb 255 (length name) (omega arith), le-ltb 255 (length password) (omega arith), fits-is (length name) (length password) h, held .0, held .1) refl
 
-module _ (name password : List ℕ) (k : Reading) {o : Outcome} {l : PPPoS} (c : Changes (newOf name password) (reader.freshReader k) o l) where
-  new-fits : length name + length password ≤ 120 → (o ≡ Done) × (theirs.newLink name password ≡ returns (viewLink l))
-  new-fits h =
-      (c .outcome ∙ rw (fits-is (length name) (length password) h) refl, fresh-is name password k h ∙ ap returns (sym (ap viewLink (c .link))))
+module _ (name password : List ℕ) {o : Outcome} {l : PPPoS} (c : Changes (newOf name password) (reader.freshReader Crate) o l) where
+  fresh : l .«frame_reader» .reading ≡ Crate
+  fresh = ap (λ (x : PPPoS). x .«frame_reader» .reading) (c .link)
 
-  new-over : 120 < length name + length password → (o ≡ Refused (Negotiation CredentialsLong)) × (theirs.newLink [] [] ≡ returns (viewLink l))
+  new-fits : length name + length password ≤ 120 → (o ≡ Done) × (theirs.newLink name password ≡ returns (viewLink l)) × (l .«frame_reader» .reading ≡ Crate)
+  new-fits h =
+      (c .outcome ∙ rw (fits-is (length name) (length password) h) refl, fresh-is name password Crate h ∙ ap returns (sym (ap viewLink (c .link))), fresh)
+
+  new-over : 120 < length name + length password → (o ≡ Refused (Negotiation CredentialsLong)) × (theirs.newLink [] [] ≡ returns (viewLink l)) × (l .«frame_reader» .reading ≡ Crate)
   new-over h =
       let e = fits-not (length name) (length password) h in
-      let link : l ≡ linkOf (reader.freshReader k) (newOf [] [] .ppp) = c .link ∙ rw e refl in
-      (c .outcome ∙ rw e refl, fresh-is [] [] k (lit≤ tt) ∙ ap returns (sym (ap viewLink link)))
+      let link : l ≡ linkOf (reader.freshReader Crate) (newOf [] [] .ppp) = c .link ∙ rw e refl in
+      (c .outcome ∙ rw e refl, fresh-is [] [] Crate (lit≤ tt) ∙ ap returns (sym (ap viewLink link)), fresh)
 
   new-panics : {p : Place} → theirs.newLink name password ≡ panics p → outcomeNumber o ≡ numberAt p
   new-panics {p} e =

@@ -38,7 +38,7 @@ module _ (l : PPPoS) (tx rx : List ℕ) (plain : Plain l) (lent : Lent l rx) (fr
   pkt = take (to - 1) (drop 1 rx)
 
   abbrev m : theirs.PPPoS
-  m = mid l tx rx (plain-held plain) (lent .bytes)
+  m = mid l tx rx (plain-held plain) (lent .bytes) (plain .crate-reading)
 
   abbrev Goal : Type 0
   Goal = SamePoll l tx rx (theirs.poll (viewLink l) tx rx) (ours.pollLink l tx rx)
@@ -49,7 +49,7 @@ module _ (l : PPPoS) (tx rx : List ℕ) (plain : Plain l) (lent : Lent l rx) (fr
   between e =
       let come : theirs.poll (viewLink l) tx rx ≡ theirs.pollRest (viewLink l) (newWriter tx) rx = rw (receive-is (l .«frame_reader») framed, e) refl in
       rw (receive-is (l .«frame_reader») framed, e, le-ltb (length rx) (l .«frame_reader» .len) (lent .room))
-      (rest-same l tx rx (l .«frame_reader») (l .ppp) (plain-held plain) [] false 0 (omega arith) come)
+      (rest-same l tx rx (l .«frame_reader») (l .ppp) (plain-held plain) [] false 0 (omega arith) (plain .crate-reading) come)
 
   -- a packet is fetched
   module _ (e : isComplete (l .«frame_reader» .state) ≡ true) where
@@ -71,13 +71,13 @@ module _ (l : PPPoS) (tx rx : List ℕ) (plain : Plain l) (lent : Lent l rx) (fr
         (λ h. by-test (eqb (protocolIn pkt) 0x0021)
         (λ t.
         let ip : theirs.poll (viewLink l) tx rx ≡ returns (record { action = theirs.Received 3 to; link = m; tx = tx; rx = rx }) = come ∙ rw (le-ltb (length pkt) 2 h, eqb-true (protocolIn pkt) 0x0021 t) refl in
-        rw (ip, mine, le-leb 2 (length pkt) h, t) (same refl refl refl refl))
+        rw (ip, mine, le-leb 2 (length pkt) h, t) (same refl refl (plain .crate-reading) refl refl))
         (λ t.
         let least : 1 ≤ to = omega (arith, framed e) in
         let most : to ≤ length rx = omega (arith, lent .room) in
         let other : theirs.poll (viewLink l) tx rx ≡ theirs.pollReceived m (newWriter tx) 1 to rx pkt = come ∙ rw (le-ltb (length pkt) 2 h) (other-protocols m (newWriter tx) 1 to rx pkt (protocolIn pkt) t) in
         rw (mine, le-leb 2 (length pkt) h, t)
-        (received-same l tx rx (plain-held plain) (lent .bytes) to least most t other)))
+        (received-same l tx rx (plain-held plain) (lent .bytes) (plain .crate-reading) to least most t other)))
         (λ h.
         let short : theirs.poll (viewLink l) tx rx ≡ panics pollSlice = come ∙ rw (lt-ltb (length pkt) 2 h) refl in
         let no : receivedOf (l .ppp) pkt .outcome ≡ Refused PacketShort = rw (lt-ltb (length pkt) 2 h) refl in

@@ -11,6 +11,7 @@ use lib.ListN.{length, drop, length-append}
 use lib.Seq.{sets, length-sets}
 use Rattle.laws.proofs.Cases.{by-le, by-test}
 use Rattle.laws.proofs.Stores.{sets-append, sets-front}
+use Rattle.framing.specs.declared.frame_reader.Reading.the-variants.{Crate}
 use Rattle.framing.specs.declared.frame_reader.FrameReader.{FrameReader}
 use Rattle.phases.specs.Phases.{PppTurn, phaseOf}
 use Rattle.negotiation.specs.declared.refusal.Outcome.the-variants.{Done}
@@ -42,7 +43,7 @@ unfolding theirs.pollRest
 rest-stops m w b e = rw e refl
 
 -- the frames of pre are written; q is the record before the phase step, and r the reader
-module _ (l : PPPoS) (tx rx : List ℕ) (r : FrameReader) (q : Ppp) (held : Held q) (pre : List (List ℕ)) (e : Bool) (c : ℕ) (fits : length (frames pre) ≤ length tx) where
+module _ (l : PPPoS) (tx rx : List ℕ) (r : FrameReader) (q : Ppp) (held : Held q) (pre : List (List ℕ)) (e : Bool) (c : ℕ) (fits : length (frames pre) ≤ length tx) (crate : r .reading ≡ Crate) where
   abbrev turn : PppTurn
   turn = record { outcome = Done; echoed = e; ppp = phaseOf q .ppp; sent = pre ++ phaseOf q .sent }
 
@@ -60,7 +61,7 @@ module _ (l : PPPoS) (tx rx : List ℕ) (r : FrameReader) (q : Ppp) (held : Held
       let link : viewLink (ours.linkOf r (phaseOf q .ppp)) ≡ record { frameReader = viewReader r; ppp = s .ppp } = ap (λ (x : ppp.Ppp). record { frameReader = viewReader r; ppp = x }) (sym (steps .ppp)) in
       rw (run, transmit-all (sets tx 0 f) (length f) c (steps .carried) (phase-sends q .short) (rw size fits), size, frames-append pre (phaseOf q .sent), length-append f g)
       (by-le (length f + length g) (length tx)
-      (λ h. rw (le-leb (length f + length g) (length tx) h) (same (sent-is (length f + length g)) link (written f g h) refl))
+      (λ h. rw (le-leb (length f + length g) (length tx) h) (same (sent-is (length f + length g)) link crate (written f g h) refl))
       (λ h. rw (lt-leb (length f + length g) (length tx) h) (full refl)))
     where
       written : (f g : List ℕ) → length f + length g ≤ length tx → (f ++ g) ++ drop (length f + length g) tx ≡ sets (sets tx 0 f) (length f) g

@@ -13,6 +13,7 @@ use lib.Seq.{sets, set-append-left}
 use Rattle.laws.specs.Each.{Bytes}
 use Rattle.laws.proofs.Cases.{by-le, by-test}
 use Rattle.framing.specs.Reader.{fetched}
+use Rattle.framing.specs.declared.frame_reader.Reading.the-variants.{Crate}
 use Rattle.framing.specs.declared.frame_reader.FrameReader.{FrameReader}
 use Rattle.negotiation.specs.Wire.{protocolIn}
 use Rattle.phases.specs.Phases.{PppTurn, phaseOf, turnOf, receivedOf}
@@ -65,7 +66,7 @@ pub refused-is : (l : PPPoS) (r : FrameReader) (tx rx pkt : List ℕ) {why : Ref
 unfolding ours.answered
 refused-is l r tx rx pkt e = rw (turn-refused (l .ppp) pkt e) refl
 
-module _ (l : PPPoS) (tx rx : List ℕ) (held : received.Held (l .ppp)) (bytes : Bytes rx) where
+module _ (l : PPPoS) (tx rx : List ℕ) (held : received.Held (l .ppp)) (bytes : Bytes rx) (crate : l .«frame_reader» .reading ≡ Crate) where
   abbrev pub next : FrameReader
   next = fetched (l .«frame_reader»)
 
@@ -111,7 +112,7 @@ module _ (l : PPPoS) (tx rx : List ℕ) (held : received.Held (l .ppp)) (bytes :
           wrote v all
           ∙ ap (λ (x : ppp.Ppp). theirs.pollRest (theirs.withPpp mid x) v (take 1 rx ++ (r .pkt ++ drop to rx))) a
           ∙ ap (λ (x : List ℕ). theirs.pollRest (theirs.withPpp mid (viewPpp (t .ppp))) v x) back in
-          rw (here, turn-done (l .ppp) pkt o) (rest-same l tx rx next (t .ppp) h (t .sent) (t .echoed) (crcAfter 0 (t .sent)) fits here))
+          rw (here, turn-done (l .ppp) pkt o) (rest-same l tx rx next (t .ppp) h (t .sent) (t .echoed) (crcAfter 0 (t .sent)) fits crate here))
           (λ over.
           let g = frames (phaseOf (t .ppp) .sent) in
           let none : theirs.transmitAll (newWriter tx) (r .tx) ≡ panics replyFull = wrote-all ∙ rw (lt-leb (length f) (length tx) over) refl in

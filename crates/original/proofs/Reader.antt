@@ -93,35 +93,34 @@ module _ (r : reader.FrameReader) (buf : List ℕ) (within : r .len ≤ length b
 
 -- ---- what a byte keeps
 
-module _ (n : ℕ) where
-  crate-kept : (s : reading.State) (h : ours.Held) (b : ℕ) → h .reader .reading ≡ Crate → ours.stepBy s h b .reader .reading ≡ Crate
-  crate-kept reading.the-variants.Start h b e = e
-  crate-kept reading.the-variants.Address h b e = e
-  crate-kept reading.the-variants.Data h b e =
-      let P : ours.Held → Type 0 = λ x. x .reader .reading ≡ Crate in
-      cond-all P (eqb b 0x7E) (cond-all (λ (x : reader.FrameReader). x .reading ≡ Crate) (ours.isGood (take (h .reader .len) (h .buf))) e e)
-      (cond-all P (ours.marks (h .reader) b) e (cond-all P (ltb (h .reader .len) (length (h .buf))) e e))
-  crate-kept reading.the-variants.Complete h b e = e
+crate-kept : (s : reading.State) (h : ours.Held) (b : ℕ) → h .reader .reading ≡ Crate → ours.stepBy s h b .reader .reading ≡ Crate
+crate-kept reading.the-variants.Start h b e = e
+crate-kept reading.the-variants.Address h b e = e
+crate-kept reading.the-variants.Data h b e =
+    let P : ours.Held → Type 0 = λ x. x .reader .reading ≡ Crate in
+    cond-all P (eqb b 0x7E) (cond-all (λ (x : reader.FrameReader). x .reading ≡ Crate) (ours.isGood (take (h .reader .len) (h .buf))) e e)
+    (cond-all P (ours.marks (h .reader) b) e (cond-all P (ltb (h .reader .len) (length (h .buf))) e e))
+crate-kept reading.the-variants.Complete h b e = e
 
-  bytes-kept : (s : reading.State) (h : ours.Held) (b : ℕ) → Bytes (h .buf) → b < 256 → Bytes (ours.stepBy s h b .buf)
-  bytes-kept reading.the-variants.Start h b k l = k
-  bytes-kept reading.the-variants.Address h b k l = k
-  bytes-kept reading.the-variants.Data h b k l =
-      let P : ours.Held → Type 0 = λ x. Bytes (x .buf) in
-      let small : ours.plainOf (h .reader) b < 256 = cond-all (λ (x : ℕ). x < 256) (h .reader .escape) (xor-lt 8 b 0x20 l (lit< tt)) l in
-      cond-all P (eqb b 0x7E) k
-      (cond-all P (ours.marks (h .reader) b) k
-      (cond-all P (ltb (h .reader .len) (length (h .buf))) (each-set (λ x. x < 256) (h .buf) (h .reader .len) (ours.plainOf (h .reader) b) k small) k))
-  bytes-kept reading.the-variants.Complete h b k l = k
+bytes-kept : (s : reading.State) (h : ours.Held) (b : ℕ) → Bytes (h .buf) → b < 256 → Bytes (ours.stepBy s h b .buf)
+bytes-kept reading.the-variants.Start h b k l = k
+bytes-kept reading.the-variants.Address h b k l = k
+bytes-kept reading.the-variants.Data h b k l =
+    let P : ours.Held → Type 0 = λ x. Bytes (x .buf) in
+    let small : ours.plainOf (h .reader) b < 256 = cond-all (λ (x : ℕ). x < 256) (h .reader .escape) (xor-lt 8 b 0x20 l (lit< tt)) l in
+    cond-all P (eqb b 0x7E) k
+    (cond-all P (ours.marks (h .reader) b) k
+    (cond-all P (ltb (h .reader .len) (length (h .buf))) (each-set (λ x. x < 256) (h .buf) (h .reader .len) (ours.plainOf (h .reader) b) k small) k))
+bytes-kept reading.the-variants.Complete h b k l = k
 
-  step-plain : (s : ours.Held) (b : ℕ) → b < 256 → Plain n s → Plain n (ours.step s b)
-  unfolding ours.step
-  step-plain s b l p =
-      record {
-        kept = step-kept n s b (p .kept);
-        crate-reading = crate-kept (s .reader .state) s b (p .crate-reading);
-        bytes = bytes-kept (s .reader .state) s b (p .bytes) l;
-      }
+step-plain : (n : ℕ) (s : ours.Held) (b : ℕ) → b < 256 → Plain n s → Plain n (ours.step s b)
+unfolding ours.step
+step-plain n s b l p =
+    record {
+      kept = step-kept n s b (p .kept);
+      crate-reading = crate-kept (s .reader .state) s b (p .crate-reading);
+      bytes = bytes-kept (s .reader .state) s b (p .bytes) l;
+    }
 
 -- ---- a run of bytes
 
@@ -156,15 +155,22 @@ fed-is n i s (b ∷ bs) big p h =
 
 -- ---- the calls
 
+fed-crate : (s : ours.Held) (bs : List ℕ) → s .reader .reading ≡ Crate → ours.fed s bs .now .reader .reading ≡ Crate
+unfolding ours.fed ours.step
+fed-crate s [] e = e
+fed-crate s (b ∷ bs) e = cond-all (λ (f : ours.Fed). f .now .reader .reading ≡ Crate) (ours.full s) e (fed-crate (ours.step s b) bs (crate-kept (s .reader .state) s b e))
+
 -- what our consume promises, in crate reading, is what the original does
 module _ (r : reader.FrameReader) (buf bs : List ℕ) (crate : r .reading ≡ Crate) (room : r .len ≤ length buf) (big : length buf < 2 ^ 64) (bytes : Bytes buf) (given : Bytes bs) where
   pub same-consume : {o : Outcome} {k : ℕ} {r′ : reader.FrameReader} {buf′ : List ℕ} → ours.Consumes (ours.held r buf) bs o k r′ buf′
-      → consume (viewReader r) buf bs ≡ returns (record { count = k; reader = viewReader r′; buf = buf′ })
+      → (consume (viewReader r) buf bs ≡ returns (record { count = k; reader = viewReader r′; buf = buf′ })) × (r′ .reading ≡ Crate)
   same-consume c =
       let plain : Plain (length buf) (ours.held r buf) = record { kept = record { room = refl; within = room }; crate-reading = crate; bytes = bytes } in
-      let now = consumed-fed (ours.held r buf) bs room in
-      fed-is (length buf) 0 (ours.held r buf) bs big plain given
-      ∙ rw (c .count, c .reader, c .bytes, now) (let e : 0 + (length bs - length (ours.fed (ours.held r buf) bs .left)) ≡ length bs - length (ours.fed (ours.held r buf) bs .left) = omega arith in rw e refl)
+      let now = consumed-fed (ours.held r buf) bs room in (
+        fed-is (length buf) 0 (ours.held r buf) bs big plain given
+            ∙ rw (c .count, c .reader, c .bytes, now) (let e : 0 + (length bs - length (ours.fed (ours.held r buf) bs .left)) ≡ length bs - length (ours.fed (ours.held r buf) bs .left) = omega arith in rw e refl),
+        rw (c .reader, now) (fed-crate (ours.held r buf) bs crate),
+      )
 
 -- what our receive promises: the packet's range, or nothing; a complete frame with under three bytes kept is refusal 5 here
 pub receive-is : (r : reader.FrameReader) → (ours.isComplete (r .state) ≡ true → 3 ≤ r .len)
@@ -175,13 +181,15 @@ receive-is r h =
     (by-test (ours.isComplete (r .state)) (λ t. rw (t, le-ltb (r .len) 2 (omega (arith, h t))) refl) (λ t. rw t refl))
 
 pub same-receive : {r r′ : reader.FrameReader} {g : Got} → ours.Receives r g r′ → (ours.isComplete (r .state) ≡ true → 3 ≤ r .len)
-    → receive (viewReader r) ≡ returns (fetchOf g (viewReader r′))
-same-receive {r} {r′} {g} c h =
-    receive-is r h
-    ∙ by-test (ours.isComplete (r .state))
-    (λ t.
-    let k : g ≡ Packet 1 (r .len - 2) = gots-differ g (Packet 1 (r .len - 2)) (c .number ∙ rw (t, le-ltb (r .len) 3 (h t)) refl) (c .range ∙ rw (t, le-leb 3 (r .len) (h t)) refl) in
-    rw (t, k, c .reader, t) refl)
-    (λ t.
-    let k : g ≡ Nothing = gots-differ g Nothing (c .number ∙ rw t refl) (c .range ∙ rw t refl) in
-    rw (t, k, c .reader, t) refl)
+    → (receive (viewReader r) ≡ returns (fetchOf g (viewReader r′))) × (r′ .reading ≡ r .reading)
+same-receive {r} {r′} {g} c h = (
+  receive-is r h
+      ∙ by-test (ours.isComplete (r .state))
+      (λ t.
+      let k : g ≡ Packet 1 (r .len - 2) = gots-differ g (Packet 1 (r .len - 2)) (c .number ∙ rw (t, le-ltb (r .len) 3 (h t)) refl) (c .range ∙ rw (t, le-leb 3 (r .len) (h t)) refl) in
+      rw (t, k, c .reader, t) refl)
+      (λ t.
+      let k : g ≡ Nothing = gots-differ g Nothing (c .number ∙ rw t refl) (c .range ∙ rw t refl) in
+      rw (t, k, c .reader, t) refl),
+  rw (c .reader) (cond-all (λ (x : reader.FrameReader). x .reading ≡ r .reading) (ours.isComplete (r .state)) refl refl),
+)

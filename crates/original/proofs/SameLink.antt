@@ -8,7 +8,6 @@ use native.Mathlib.Nat.{sub-self}
 use borrow.Author.Tests.{lt-ltb, le-ltb}
 use lib.ListN.{length}
 use Rattle.framing.specs.Reader.{isComplete, fetched}
-use Rattle.framing.specs.declared.frame_reader.Reading.the-variants.{Crate}
 use Rattle.framing.specs.declared.refusal.Refusal.the-variants.{BufferShort, FrameShort}
 use Rattle.framing.proofs.Reader.{consumed-short}
 use Rattle.link.specs.Link.{linkOf, heldBy, Consumes, declined, pollLink, Polls}
@@ -17,9 +16,11 @@ use Rattle.link.specs.declared.refusal.Outcome.{Outcome}
 use Rattle.link.specs.declared.refusal.Outcome.the-variants.{Refused}
 use Rattle.link.specs.declared.pppos.PPPoS.{PPPoS}
 use Rattle.link.specs.declared.pppos.PPPoSAction.{PPPoSAction}
+use Rattle.laws.proofs.Cases.{apart}
+use Rattle.original.specs.Run.{Run, returns}
 use Rattle.original.specs.Pppos as theirs
-use Rattle.original.specs.View.{viewLink}
-use Rattle.original.specs.Same.{SameFraming, Plain, Lent, SamePoll, SameLink}
+use Rattle.original.specs.View.{viewLink, asAction}
+use Rattle.original.specs.Same.{SameFraming, Plain, Lent, SamePoll, same, full, dropped, opens, SameLink}
 use Rattle.original.proofs.Crc.{same-crc16}
 use Rattle.original.proofs.Writer.{same-start, same-append, same-finish}
 use Rattle.original.proofs.Reader.{same-consume, same-receive}
@@ -31,6 +32,20 @@ polls-same : (l : PPPoS) (tx rx : List ℕ) → Plain l → Lent l rx → (isCom
     → {a : PPPoSAction} {l′ : PPPoS} {tx′ rx′ : List ℕ} → Polls (pollLink l tx rx) a l′ tx′ rx′
     → SamePoll l tx rx (theirs.poll (viewLink l) tx rx) (record { action = a; link = l′; tx = tx′; rx = rx′ })
 polls-same l tx rx p lent framed c = rw (c .action, c .link, c .transmit, c .receive) (same-poll l tx rx p lent framed)
+
+polls-domain : (l : PPPoS) (tx rx : List ℕ) → Plain l → Lent l rx → (isComplete (l .«frame_reader» .state) ≡ true → 3 ≤ l .«frame_reader» .len)
+    → {a : PPPoSAction} {l′ : PPPoS} {tx′ rx′ : List ℕ} → Polls (pollLink l tx rx) a l′ tx′ rx′ → {o : theirs.Poll} → theirs.poll (viewLink l) tx rx ≡ returns o
+    → (a ≡ asAction (o .action)) × (viewLink l′ ≡ o .link) × (tx′ ≡ o .tx) × (rx′ ≡ o .rx)
+polls-domain l tx rx p lent framed {a} {l′} {tx′} {rx′} c {o} e = go (theirs.poll (viewLink l) tx rx) e (polls-same l tx rx p lent framed c)
+  where
+    go : (x : Run theirs.Poll) → x ≡ returns o → SamePoll l tx rx x (record { action = a; link = l′; tx = tx′; rx = rx′ })
+        → (a ≡ asAction (o .action)) × (viewLink l′ ≡ o .link) × (tx′ ≡ o .tx) × (rx′ ≡ o .rx)
+    go x k (same {o = q} h i j m n) =
+        let z : q ≡ o = cc in
+        (rw z at h, rw z at i, rw z at m, rw z at n)
+    go x k (full h) = apart (cc)
+    go x k (dropped why h i) = apart (cc)
+    go x k (opens b m w d h i) = apart (cc)
 
 poll-unframed : (l : PPPoS) (tx rx : List ℕ) → l .«frame_reader» .len ≤ length rx → isComplete (l .«frame_reader» .state) ≡ true → l .«frame_reader» .len < 3
     → pollLink l tx rx ≡ declined (Framing FrameShort) (linkOf (fetched (l .«frame_reader»)) (l .ppp)) tx rx
@@ -63,11 +78,12 @@ same-framing =
 pub same-link : SameLink
 same-link =
     record {
-      new = λ name password c. same-new name password Crate c;
+      new = same-new;
       «open» = same-open;
       status = same-status;
       consume = same-consume-link;
       poll = polls-same;
+      domain = polls-domain;
       send = same-send;
       unframed = poll-unframed;
       short-poll = poll-short;

@@ -90,10 +90,7 @@ pub data Fetch : Type 0 where
   range : ℕ → ℕ → FrameReader → Fetch
 
 abbrev pub isComplete : ReaderState → Bool
-isComplete Start = false
-isComplete Address = false
-isComplete Data = false
-isComplete Complete = true
+isComplete = elim [ Start ↦ false | Address ↦ false | Data ↦ false | Complete ↦ true ]
 
 -- FrameReader::receive
 unfoldable pub receive : FrameReader → Run Fetch

@@ -24,18 +24,10 @@ pub data State : Type 0 where
   Closed ReqSent AckReceived AckSent Opened : State
 
 abbrev pub isClosed : State → Bool
-isClosed Closed = true
-isClosed ReqSent = false
-isClosed AckReceived = false
-isClosed AckSent = false
-isClosed Opened = false
+isClosed = elim [ Closed ↦ true | ReqSent ↦ false | AckReceived ↦ false | AckSent ↦ false | Opened ↦ false ]
 
 abbrev pub isOpened : State → Bool
-isOpened Closed = false
-isOpened ReqSent = false
-isOpened AckReceived = false
-isOpened AckSent = false
-isOpened Opened = true
+isOpened = elim [ Closed ↦ false | ReqSent ↦ false | AckReceived ↦ false | AckSent ↦ false | Opened ↦ true ]
 
 pub record OptionFsm (P : Type 0) : Type 0 where
   pub id : ℕ

@@ -140,19 +140,13 @@ pub data PapState : Type 0 where
   PapClosed PapReqSent PapOpened : PapState
 
 abbrev pub isPapClosed : PapState → Bool
-isPapClosed PapClosed = true
-isPapClosed PapReqSent = false
-isPapClosed PapOpened = false
+isPapClosed = elim [ PapClosed ↦ true | PapReqSent ↦ false | PapOpened ↦ false ]
 
 abbrev pub isPapSent : PapState → Bool
-isPapSent PapClosed = false
-isPapSent PapReqSent = true
-isPapSent PapOpened = false
+isPapSent = elim [ PapClosed ↦ false | PapReqSent ↦ true | PapOpened ↦ false ]
 
 abbrev pub isPapOpened : PapState → Bool
-isPapOpened PapClosed = false
-isPapOpened PapReqSent = false
-isPapOpened PapOpened = true
+isPapOpened = elim [ PapClosed ↦ false | PapReqSent ↦ false | PapOpened ↦ true ]
 
 pub record Pap : Type 0 where
   pub state : PapState

@@ -62,9 +62,9 @@ pub record SameFraming : Type 0 where
   pub new-reader : viewReader (freshReader Crate) ≡ newReader
   pub consume-bytes : (r : reader.FrameReader) (buf bs : List ℕ) → r .reading ≡ Crate → r .len ≤ length buf → length buf < 2 ^ 64 → Bytes buf → Bytes bs
       → {o : framed.Outcome} {n : ℕ} {r′ : reader.FrameReader} {buf′ : List ℕ} → reading.Consumes (held r buf) bs o n r′ buf′
-      → consume (viewReader r) buf bs ≡ returns (record { count = n; reader = viewReader r′; buf = buf′ })
+      → (consume (viewReader r) buf bs ≡ returns (record { count = n; reader = viewReader r′; buf = buf′ })) × (r′ .reading ≡ Crate)
   pub receive-packet : {r r′ : reader.FrameReader} {g : Got} → Receives r g r′ → (isComplete (r .state) ≡ true → 3 ≤ r .len)
-      → receive (viewReader r) ≡ returns (fetchOf g (viewReader r′))
+      → (receive (viewReader r) ≡ returns (fetchOf g (viewReader r′))) × (r′ .reading ≡ r .reading)
 
 -- the number that document 01's table names for a place; 0 where it names none
 abbrev pub numberAt : Place → ℕ
@@ -117,8 +117,9 @@ pub record Lent (l : PPPoS) (rx : List ℕ) : Type 0 where
 
 -- a poll of ours, beside what the original's comes to
 pub data SamePoll (l : PPPoS) (tx rx : List ℕ) : Run theirs.Poll → Poll → Type 0 where
-  -- it returns: the action, the link and every byte of both buffers
-  same : {o : theirs.Poll} {p : Poll} → p .action ≡ asAction (o .action) → viewLink (p .link) ≡ o .link → p .tx ≡ o .tx → p .rx ≡ o .rx → SamePoll l tx rx (returns o) p
+  -- it returns: the action, the link, still in crate reading, and every byte of both buffers
+  same : {o : theirs.Poll} {p : Poll} → p .action ≡ asAction (o .action) → viewLink (p .link) ≡ o .link → p .link .«frame_reader» .reading ≡ Crate
+      → p .tx ≡ o .tx → p .rx ≡ o .rx → SamePoll l tx rx (returns o) p
   -- a frame does not fit: refusal 1, and everything stays
   full : {p : Poll} → p ≡ declined FramesFull l tx rx → SamePoll l tx rx (panics replyFull) p
   -- any other panic of a received packet: the table's refusal, and the frame is dropped
@@ -136,13 +137,13 @@ pub record SameSend (r : Wrote) (o : Outcome) (n : ℕ) (tx : List ℕ) : Type 0
 
 -- a call of open: done where the original says Ok; refusal 2 where it says Err, and the link stays
 abbrev pub SameOpen : Result theirs.PPPoS → PPPoS → Outcome → PPPoS → Type 0
-SameOpen (ok m) l o l′ = (o ≡ Done) × (viewLink l′ ≡ m)
+SameOpen (ok m) l o l′ = (o ≡ Done) × (viewLink l′ ≡ m) × (l′ .«frame_reader» ≡ l .«frame_reader»)
 SameOpen err l o l′ = (o ≡ Refused (Negotiation NotDead)) × (l′ ≡ l)
 
 -- a call of new: name and password of at most 120 bytes; above, refusal 4 and a fresh link with both empty, also where the original panics
 pub record SameNew (name password : List ℕ) (o : Outcome) (l : PPPoS) : Type 0 where
-  pub fits : length name + length password ≤ 120 → (o ≡ Done) × (theirs.newLink name password ≡ returns (viewLink l))
-  pub over : 120 < length name + length password → (o ≡ Refused (Negotiation CredentialsLong)) × (theirs.newLink [] [] ≡ returns (viewLink l))
+  pub fits : length name + length password ≤ 120 → (o ≡ Done) × (theirs.newLink name password ≡ returns (viewLink l)) × (l .«frame_reader» .reading ≡ Crate)
+  pub over : 120 < length name + length password → (o ≡ Refused (Negotiation CredentialsLong)) × (theirs.newLink [] [] ≡ returns (viewLink l)) × (l .«frame_reader» .reading ≡ Crate)
   pub panicked : {p : Place} → theirs.newLink name password ≡ panics p → outcomeNumber o ≡ numberAt p
 
 -- ---- all calls, each as its contract has it
@@ -152,10 +153,14 @@ pub record SameLink : Type 0 where
   pub «open» : (l : PPPoS) {o : Outcome} {l′ : PPPoS} → Changes (openOf (l .ppp)) (l .«frame_reader») o l′ → SameOpen (theirs.openLink (viewLink l)) l o l′
   pub status : (l : PPPoS) → theirs.statusLink (viewLink l) ≡ viewStatus (statusOf (l .ppp))
   pub consume : (l : PPPoS) (rx bs : List ℕ) → Plain l → Lent l rx → Bytes bs → {o : Outcome} {n : ℕ} {l′ : PPPoS} {rx′ : List ℕ} → Consumes l rx bs o n l′ rx′
-      → (o ≡ Done) × (theirs.consumeLink (viewLink l) bs rx ≡ returns (record { count = n; link = viewLink l′; rx = rx′ }))
+      → (o ≡ Done) × (theirs.consumeLink (viewLink l) bs rx ≡ returns (record { count = n; link = viewLink l′; rx = rx′ })) × (l′ .«frame_reader» .reading ≡ Crate)
   pub poll : (l : PPPoS) (tx rx : List ℕ) → Plain l → Lent l rx → (isComplete (l .«frame_reader» .state) ≡ true → 3 ≤ l .«frame_reader» .len)
       → {a : PPPoSAction} {l′ : PPPoS} {tx′ rx′ : List ℕ} → Polls (pollLink l tx rx) a l′ tx′ rx′
       → SamePoll l tx rx (theirs.poll (viewLink l) tx rx) (record { action = a; link = l′; tx = tx′; rx = rx′ })
+  -- the same in the domain: where the original returns, ours refuses nothing
+  pub domain : (l : PPPoS) (tx rx : List ℕ) → Plain l → Lent l rx → (isComplete (l .«frame_reader» .state) ≡ true → 3 ≤ l .«frame_reader» .len)
+      → {a : PPPoSAction} {l′ : PPPoS} {tx′ rx′ : List ℕ} → Polls (pollLink l tx rx) a l′ tx′ rx′ → {o : theirs.Poll} → theirs.poll (viewLink l) tx rx ≡ returns o
+      → (a ≡ asAction (o .action)) × (viewLink l′ ≡ o .link) × (tx′ ≡ o .tx) × (rx′ ≡ o .rx)
   pub send : (l : PPPoS) (pkt tx : List ℕ) → Bytes pkt → {o : Outcome} {n : ℕ} {tx′ : List ℕ} → Sends l pkt tx o n tx′ → SameSend (theirs.send (viewLink l) pkt tx) o n tx′
   -- whatever the original does: refusal 5, and the frame dropped, for a complete frame with under three bytes kept
   pub unframed : (l : PPPoS) (tx rx : List ℕ) → l .«frame_reader» .len ≤ length rx → isComplete (l .«frame_reader» .state) ≡ true → l .«frame_reader» .len < 3
