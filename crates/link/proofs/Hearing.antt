@@ -2,25 +2,43 @@
 -- Assumes nothing.
 use mathlib.Core.Path.{_≡_, refl, sym}
 use mathlib.Core.Bool.{Bool, true, false, false≢true}
-use mathlib.Core.List.{List}
+use mathlib.Core.List.{List, []}
 use Prim.Native.Nat.{ℕ, _≤_}
 use native.Mathlib.Omega.{arith}
-use borrow.Author.Tests.{le-leb, le-ltb}
-use lib.Dec.{ltb}
+use borrow.Author.Tests.{leb-true, eqb-true, le-leb, le-ltb}
+use lib.Dec.{ltb, leb, eqb}
 use lib.ListN.{length, drop, length-set}
-use Rattle.laws.proofs.Cases.{by-test}
+use Rattle.laws.proofs.Cases.{by-test, both, cond-by}
 use Rattle.framing.specs.Reader.{held, isComplete, fed, fetched, packetOf}
 use Rattle.framing.specs.Writer.{over}
 use Rattle.framing.specs.Heard.{fetchedIn}
 use Rattle.framing.specs.declared.frame_reader.FrameReader.{FrameReader}
 use Rattle.framing.proofs.Reader.{consumed-fed, fed-left, Alike, alike-refl}
-use Rattle.phases.specs.Phases.{PppTurn, pollOf, turnOf}
+use Rattle.phases.specs.Phases.{PppTurn, pppTurned, receivedOf, pollOf, turnOf}
+use Rattle.phases.specs.declared.ppp.Ppp.{Ppp}
+use Rattle.negotiation.specs.Wire.{protocolIn}
 use Rattle.negotiation.specs.declared.refusal.Outcome as negotiation
 use Rattle.link.specs.Frames.{frames}
-use Rattle.link.specs.Link.{heldBy, Consumes, linkOf, sent, Poll, echoedIn, byOutcome, answered, isIp, packetPoll, pollLink}
+use Rattle.link.specs.Link.{heldBy, Consumes, linkOf, sent, Poll, echoedIn, byOutcome, answered, isIp, packetPoll, pollLink, actionNumber, transmitted}
 use Rattle.link.specs.declared.refusal.Outcome.{Outcome}
 use Rattle.link.specs.declared.pppos.PPPoS.{PPPoS}
+use Rattle.link.specs.declared.pppos.PPPoSAction.{PPPoSAction}
 use Rattle.link.proofs.Sending.{turn-narrow, poll-narrow}
+
+-- the action of so many bytes written
+pub sent-count : (n : ℕ) → (actionNumber (sent n) ≡ 0) × (transmitted (sent n) ≡ n)
+sent-count n = cond-by (λ (a : PPPoSAction). (actionNumber a ≡ 0) × (transmitted a ≡ n)) (eqb n 0) (λ e. (refl, sym (eqb-true n 0 e))) (λ _. (refl, refl))
+
+-- an IPv4 packet changes nothing in negotiation, and a turn with it would be a phase step alone
+pub ip-received : (p : Ppp) (x : List ℕ) → isIp x ≡ true → receivedOf p x ≡ pppTurned p []
+unfolding receivedOf
+ip-received p x e =
+    let k = both (leb 2 (length x)) (eqb (protocolIn x) 0x0021) e in
+    rw (le-ltb (length x) 2 (leb-true 2 (length x) (k .0)), eqb-true (protocolIn x) 0x0021 (k .1)) refl
+
+pub ip-turn : (p : Ppp) (x : List ℕ) → isIp x ≡ true → turnOf p x ≡ pollOf p
+unfolding turnOf
+ip-turn p x e = rw (ip-received p x e) refl
 
 -- a consume: framing's run on the kept bytes; what it left stands behind the bytes that are counted
 pub consume-feeds : {l : PPPoS} {rx bs : List ℕ} {o : Outcome} {n : ℕ} {l′ : PPPoS} {rx′ : List ℕ} → Consumes l rx bs o n l′ rx′

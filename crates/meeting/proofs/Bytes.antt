@@ -24,6 +24,7 @@ use Rattle.link.specs.declared.refusal.Outcome.{Outcome}
 use Rattle.link.specs.declared.pppos.PPPoS.{PPPoS}
 use Rattle.link.specs.declared.pppos.PPPoSAction.{PPPoSAction}
 use Rattle.link.proofs.Hearing as hearing
+use Rattle.link.proofs.Hearing.{sent-count, ip-turn}
 use Rattle.meeting.specs.Calls.{End, endOf, Answer, behind}
 
 -- ---- one byte
@@ -89,18 +90,7 @@ module _ (e : End) (b : ℕ) where
   unfolding says
   says-full f = rw f
 
--- ---- an IPv4 packet, of which there is none: negotiation takes it for a phase step
-
-ip-turn : (p : Ppp) (x : List ℕ) → isIp x ≡ true → turnOf p x ≡ pollOf p
-unfolding turnOf receivedOf
-ip-turn p x e =
-    let k = both (leb 2 (length x)) (eqb (protocolIn x) 0x0021) e in
-    rw (le-ltb (length x) 2 (leb-true 2 (length x) (k .0)), eqb-true (protocolIn x) 0x0021 (k .1)) refl
-
 -- ---- a poll
-
-sent-count : (n : ℕ) → (actionNumber (sent n) ≡ 0) × (transmitted (sent n) ≡ n)
-sent-count n = cond-by (λ (a : PPPoSAction). (actionNumber a ≡ 0) × (transmitted a ≡ n)) (eqb n 0) (λ e. (refl, sym (eqb-true n 0 e))) (λ _. (refl, refl))
 
 -- the end e after a call with outcome o that consumed n bytes, and a poll that wrote w
 abbrev pub fine : End → Outcome → ℕ → List ℕ → Answer

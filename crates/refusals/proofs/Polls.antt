@@ -31,6 +31,7 @@ use Rattle.link.specs.declared.refusal.Refusal.the-variants.{Negotiation}
 use Rattle.link.specs.declared.pppos.PPPoS.{PPPoS}
 use Rattle.link.specs.declared.pppos.PPPoSAction.{PPPoSAction}
 use Rattle.link.specs.declared.pppos.PPPoSAction.the-variants.{Idle, Received, Transmit}
+use Rattle.link.proofs.Hearing.{sent-count, ip-received}
 use Rattle.refusals.proofs.Rows.{First}
 use Rattle.refusals.proofs.Faults.{fault-number}
 use Rattle.refusals.proofs.Causes.{numberFrom, short-refused, length-refused, option-refused, reply-refused, Cause, fine, short, lengthShort, option, replyLong, cause}
@@ -83,9 +84,6 @@ module _ (l : PPPoS) (tx rx : List ℕ) where
   Last out q =
       ((actionNumber (q .action) ≡ 1) × (length tx < length out) × ((q .link ≡ l) × (q .tx ≡ tx) × (q .rx ≡ rx)))
       ⊎ ((length tx < length out → ⊥) × (actionNumber (q .action) ≡ 0))
-
-  sent-count : (n : ℕ) → (actionNumber (cond (eqb n 0) Idle (Transmit n)) ≡ 0) × (transmitted (cond (eqb n 0) Idle (Transmit n)) ≡ n)
-  sent-count n = cond-by (λ (a : PPPoSAction). (actionNumber a ≡ 0) × (transmitted a ≡ n)) (eqb n 0) (λ e. (refl, sym (eqb-true n 0 e))) (λ _. (refl, refl))
 
   written-last : (r : FrameReader) (t : PppTurn) → Last (frames (t .sent)) (written l r t tx rx) × Sent tx (frames (t .sent)) (written l r t tx rx)
   unfolding Last
@@ -210,10 +208,7 @@ module _ (l : PPPoS) (tx rx : List ℕ) where
 
     -- an IPv4 packet is refused for nothing
     ip-fine : isIp pkt ≡ true → numberFrom (l .ppp) pkt ≡ 0
-    unfolding receivedOf
-    ip-fine e =
-        let t = both (leb 2 (length pkt)) (eqb (protocolIn pkt) 0x0021) e in
-        rw (le-ltb (length pkt) 2 (leb-true 2 (length pkt) (t .0)), eqb-true (protocolIn pkt) 0x0021 (t .1)) refl
+    ip-fine e = rw (ip-received (l .ppp) pkt e) refl
 
     right-packet : Got → Right l tx rx (cond (isIp pkt) [] (frames (turnOf (l .ppp) pkt .sent)))
         (packetPoll l (fetched (l .«frame_reader»)) (l .«frame_reader» .len - 2) tx rx pkt)
