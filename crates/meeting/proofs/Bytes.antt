@@ -4,25 +4,22 @@ use mathlib.Core.Path.{_≡_, refl, sym, ap, _∙_, subst}
 use mathlib.Core.Bool.{Bool, true, false, cond}
 use mathlib.Core.List.{List, []}
 use Prim.Native.Nat.{ℕ, _≤_}
-use borrow.Author.Tests.{leb-true, eqb-true, le-ltb}
-use lib.Dec.{leb, eqb}
+use borrow.Author.Tests.{le-ltb}
 use lib.ListN.{length}
 use lib.Seq.{take-append-seam}
-use Rattle.laws.proofs.Cases.{by-test, cond-by, both}
+use Rattle.laws.proofs.Cases.{by-test}
 use Rattle.framing.specs.Reader.{Held, held, step, full, fetched, packetOf}
 use Rattle.framing.specs.Heard.{fetchedIn}
 use Rattle.framing.specs.declared.frame_reader.FrameReader.{FrameReader}
-use Rattle.negotiation.specs.Wire.{protocolIn}
-use Rattle.phases.specs.Phases.{PppTurn, receivedOf, pollOf, turnOf}
+use Rattle.phases.specs.Phases.{PppTurn, pollOf, turnOf}
 use Rattle.phases.specs.Moves.{Calm}
 use Rattle.phases.specs.declared.ppp.Ppp.{Ppp}
 use Rattle.negotiation.specs.declared.refusal.Outcome.the-variants as negotiation
 use Rattle.link.specs.Refusal.{outcomeNumber}
 use Rattle.link.specs.Frames.{frames}
-use Rattle.link.specs.Link.{linkOf, heldBy, sent, isIp, packetPoll, pollLink, actionNumber, transmitted}
+use Rattle.link.specs.Link.{linkOf, heldBy, sent, isIp, packetPoll, pollLink}
 use Rattle.link.specs.declared.refusal.Outcome.{Outcome}
 use Rattle.link.specs.declared.pppos.PPPoS.{PPPoS}
-use Rattle.link.specs.declared.pppos.PPPoSAction.{PPPoSAction}
 use Rattle.link.proofs.Hearing as hearing
 use Rattle.link.proofs.Hearing.{sent-count, ip-turn}
 use Rattle.meeting.specs.Calls.{End, endOf, Answer, behind}

@@ -1,16 +1,15 @@
 -- Laws of packets and of replies: what a record holds once bytes or packets are added.
 -- Assumes nothing.
-use Prim.Native.Nat.{ℕ, suc, zero, _+_, _-_, _<_, _≤_}
+use Prim.Native.Nat.{ℕ, _+_, _-_, _<_, _≤_}
 use mathlib.Core.Path.{_≡_, refl, ap, sym, _∙_}
 use mathlib.Core.List.{List, [], _∷_, _++_, map, map-append, append-assoc, append-nil}
 use native.Mathlib.Numerals.{add-one}
 use native.Mathlib.Omega.{arith}
 use borrow.Author.Tests.{le-ltb}
-use lib.ListN.{length, take, set, replicate, getD, length-append, length-map, length-take}
-use lib.Seq.{take-append-seam, set-append-seam, take-suc, take-all}
+use lib.ListN.{length, take, getD, length-append, length-map, length-take}
+use lib.Seq.{take-append-seam, take-suc}
 use Rattle.laws.proofs.Stores.{seam}
 use Rattle.negotiation.specs.declared.wire.Packet.{Packet}
-use Rattle.negotiation.specs.declared.wire.Replies.{Replies}
 use Rattle.negotiation.specs.Wire.{pktOf, contentOf, Tidy, pushed, Pushed, repliesOf, added, joined}
 
 -- a packet holds what it was made of

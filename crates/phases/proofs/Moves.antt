@@ -2,7 +2,7 @@
 -- Assumes nothing.
 use mathlib.Core.Path.{_≡_, refl, ap, _∙_}
 use mathlib.Core.Bool.{Bool, true, false, _&&_, true≢false}
-use mathlib.Core.List.{List, [], _∷_, _++_}
+use mathlib.Core.List.{[], _∷_, _++_}
 use Prim.Native.Nat.{ℕ, _<_}
 use native.Mathlib.Omega.{arith}
 use Rattle.laws.specs.Be.{beFrom, beBytes}
@@ -14,12 +14,8 @@ use Rattle.negotiation.specs.Reply.{listedOf, stepOf, replyOf}
 use Rattle.negotiation.specs.Automaton.{nextId, requested, ackOf, reqWith, reqOf, nackWith, nackOf, termAckOf, ignoredTurn, echoOf, actOf, handleOf, rejectTurn, openedFsm}
 use Rattle.phases.specs.Phases.{pppTurned, rejectOf, receivedOf, establishOf, authOf, networkOf, phaseOf, openOf, pollOf, turnOf}
 use Rattle.phases.specs.Moves.{Self, selfOf, offer, heard, lcpPacket, hello, ask, grant, deny, lcpAt, ipAt, end, begun, answered, net, Small, Calm, Moves}
-use Rattle.negotiation.specs.declared.lcp.AuthType.{AuthType}
 use Rattle.negotiation.specs.declared.lcp.AuthType.the-variants.{None}
-use Rattle.negotiation.specs.declared.states.State.{State}
 use Rattle.negotiation.specs.declared.states.State.the-variants.{Closed, ReqSent, AckReceived, AckSent, Opened}
-use Rattle.negotiation.specs.declared.pap.Pap.{Pap}
-use Rattle.phases.specs.declared.ppp.Phase.{Phase}
 use Rattle.phases.specs.declared.ppp.Phase.the-variants.{Dead, Establish, Network, Open}
 use Rattle.phases.specs.declared.ppp.Ppp.{Ppp}
 

@@ -6,17 +6,16 @@ use mathlib.Core.List.{List, []}
 use mathlib.Core.Logic.{_⊎_, inl, inr}
 use Prim.Native.Nat.{ℕ, _-_, _<_}
 use native.Mathlib.Omega.{arith}
-use borrow.Author.Tests.{ltb-true, ltb-false, leb-true, leb-false, eqb-true, le-ltb}
-use lib.Dec.{eqb, ltb, leb}
+use borrow.Author.Tests.{ltb-true, ltb-false, leb-true, leb-false}
+use lib.Dec.{ltb, leb}
 use lib.ListN.{length, drop, length-take}
-use Rattle.laws.proofs.Cases.{by-test, both, cond-by}
+use Rattle.laws.proofs.Cases.{by-test, cond-by}
 use Rattle.framing.specs.Writer.{over}
 use Rattle.framing.specs.Reader.{isShort, isComplete, fetched}
 use Rattle.framing.specs.declared.frame_reader.FrameReader.{FrameReader}
 use Rattle.framing.specs.declared.frame_reader.State.{State}
 use Rattle.framing.specs.declared.frame_reader.State.the-variants.{Start, Address, Data, Complete}
 use Rattle.negotiation.specs.Refusal.{numberOf, outcomeNumber}
-use Rattle.negotiation.specs.Wire.{protocolIn}
 use Rattle.phases.specs.Phases.{PppTurn, receivedOf, pollOf, turnOf}
 use Rattle.phases.specs.declared.ppp.Ppp.{Ppp}
 use Rattle.negotiation.specs.declared.refusal.Outcome.{Outcome}
@@ -30,7 +29,7 @@ use Rattle.refusals.specs.Table.{packetIn, OptionFault, Kept, pollRows}
 use Rattle.link.specs.declared.refusal.Refusal.the-variants.{Negotiation}
 use Rattle.link.specs.declared.pppos.PPPoS.{PPPoS}
 use Rattle.link.specs.declared.pppos.PPPoSAction.{PPPoSAction}
-use Rattle.link.specs.declared.pppos.PPPoSAction.the-variants.{Idle, Received, Transmit}
+use Rattle.link.specs.declared.pppos.PPPoSAction.the-variants.{Received}
 use Rattle.link.proofs.Hearing.{sent-count, ip-received}
 use Rattle.refusals.proofs.Rows.{First}
 use Rattle.refusals.proofs.Faults.{fault-number}

@@ -19,7 +19,6 @@ use Rattle.phases.specs.declared.ppp.Ppp.{Ppp}
 use Rattle.negotiation.specs.declared.states.State.{State}
 use Rattle.negotiation.specs.declared.states.State.the-variants.{Closed, Opened}
 use Rattle.link.specs.declared.pppos.PPPoS.{PPPoS}
-use Rattle.link.specs.declared.pppos.PPPoSAction.{PPPoSAction}
 
 -- ---- rows
 

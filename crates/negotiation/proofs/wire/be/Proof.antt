@@ -1,9 +1,9 @@
-use Prim.Native.Nat.{ℕ, _≤_, _<_, _-_, _^_}
+use Prim.Native.Nat.{_≤_, _<_, _-_, _^_}
 use mathlib.Core.Path.{_≡_, sym, _∙_}
 use borrow.Author.Needs.{needs}
 use native.Mathlib.Omega.{arith}
 use lib.ListN.{length, drop}
-use Rattle.laws.specs.Be.{beFrom, beOf}
+use Rattle.laws.specs.Be.{beFrom}
 use Rattle.laws.proofs.Be.{be-step, be-end, be-room, be-bound}
 use Rattle.negotiation.proofs.wire.be.Statement.{statement}
 use Rattle.negotiation.proofs.wire.be.Tie as tie

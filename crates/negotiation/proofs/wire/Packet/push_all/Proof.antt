@@ -1,12 +1,12 @@
-use Prim.Native.Nat.{ℕ, _≤_, _<_, _-_, _+_}
-use mathlib.Core.Path.{_≡_, refl, ap, _∙_}
+use Prim.Native.Nat.{ℕ, _≤_, _-_, _+_}
+use mathlib.Core.Path.{_≡_, ap, _∙_}
 use mathlib.Core.List.{List, _++_}
 use borrow.Author.Needs.{needs}
 use native.Mathlib.Omega.{arith}
 use lib.ListN.{length, take, length-take}
 use lib.Seq.{take-all}
 use Rattle.negotiation.specs.declared.wire.Packet.{Packet}
-use Rattle.negotiation.specs.Wire.{pktOf, contentOf, Tidy, pushed}
+use Rattle.negotiation.specs.Wire.{pktOf, contentOf}
 use Rattle.negotiation.proofs.Wires.{push-none, push-one, tidy-of}
 use Rattle.negotiation.proofs.wire.Packet.push_all.Statement.{statement}
 use Rattle.negotiation.proofs.wire.Packet.push_all.Tie as tie
