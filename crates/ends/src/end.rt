@@ -93,34 +93,26 @@ impl End {
         }
     }
 
-    fn consume(self, src: &[u8], rx: &mut [u8]) -> Self {
+    pub(crate) fn step(self, src: &[u8], wire: &mut [u8], rx: &mut [u8]) -> Self {
         let link = self.link;
         let c = link.consume(src, rx);
         let o = c.outcome;
         let link = c.link;
         let n = c.count;
+        let sent = lent(wire, self.sent);
+        let p = poll_into(link, &mut wire[sent..], rx);
+        let action = p.action;
+        let link = p.link;
         let known = self.known;
         let none = if 0 < src.len() && n == 0 { 1 } else { 0 };
         End {
             link,
-            sent: self.sent,
+            sent: plus(sent, written(action)),
             heard: plus(self.heard, n),
-            refused: plus(self.refused, refused(o)),
+            refused: plus(plus(self.refused, refused(o)), declined(action)),
             stuck: plus(self.stuck, none),
             known,
         }
-    }
-
-    fn step(self, src: &[u8], wire: &mut [u8], rx: &mut [u8]) -> Self {
-        self.consume(src, rx).poll(wire, rx)
-    }
-
-    // A step, if it is this end's turn.
-    pub(crate) fn turn(self, mine: bool, src: &[u8], wire: &mut [u8], rx: &mut [u8]) -> Self {
-        if !mine {
-            return self;
-        }
-        self.step(src, wire, rx)
     }
 
     // Opens the link, and polls once.

@@ -65,9 +65,11 @@ fn converse(p: Pair, wa: &mut [u8], wb: &mut [u8], ra: &mut [u8], rb: &mut [u8])
         }
         seed = draw(seed);
         let n = (seed / 0x2_0000 % 41) as usize;
-        let first = seed / 0x1_0000 % 2 == 0;
-        a = a.turn(first, front(ip_packet(wb, a.heard, b.sent), n), wa, ra);
-        b = b.turn(!first, front(ip_packet(wa, b.heard, a.sent), n), wb, rb);
+        if seed / 0x1_0000 % 2 == 0 {
+            a = a.step(front(ip_packet(wb, a.heard, b.sent), n), wa, ra);
+            continue;
+        }
+        b = b.step(front(ip_packet(wa, b.heard, a.sent), n), wb, rb);
     }
     let to_a = p.to_a;
     let to_b = p.to_b;

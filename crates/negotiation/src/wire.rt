@@ -4,7 +4,7 @@ ghost use mathlib.Core.List.{[]};
 ghost use Prim.Native.Nat.{_+_, _≤_, _<_};
 ghost use lib.ListN.{length};
 ghost use Rattle.laws.specs.Be.{beOf, beBytes};
-ghost use Rattle.negotiation.specs.Wire.{pktOf, contentOf, Tidy, pushed, packetOf, protocolIn, Pushed, repliesOf, added, joined};
+ghost use Rattle.negotiation.specs.Wire.{pktOf, contentOf, Tidy, packetOf, protocolIn, Pushed, repliesOf, added, joined};
 
 pub(crate) const MAX_OPTIONS: usize = 6;
 
@@ -85,17 +85,6 @@ impl Packet {
         }
     }
 
-    fn push(self, b: u8) -> Self
-        requires { ⌜ self .len < 128 ⌝ }
-        ensures { λ r. ⌜ r ≡ pushed self b ⌝ }
-    {
-        let mut p = self;
-        let at = p.len;
-        p.bytes[at] = b;
-        p.len = at + 1;
-        p
-    }
-
     // The bytes of d behind those held.
     pub(crate) fn push_all(self, d: &[u8]) -> Self
         requires { ⌜ Tidy self × (self .len + length (now d) ≤ 128) ⌝ }
@@ -104,7 +93,9 @@ impl Packet {
         let mut p = self;
         let mut i = 0;
         while i < d.len() {
-            p = p.push(d[i]);
+            let at = p.len;
+            p.bytes[at] = d[i];
+            p.len = at + 1;
             i += 1;
         }
         p

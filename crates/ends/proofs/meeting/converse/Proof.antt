@@ -1,4 +1,4 @@
--- `ends::meeting::converse` is safe and ends.
+-- `ends::meeting::converse` is safe and ends: a step keeps the lengths of the buffers that it is lent.
 use borrow.Author.Needs.{needs}
 use native.Mathlib.Omega.{arith}
 use lib.ListN.{length}
@@ -33,8 +33,14 @@ ip-packet-requires c κs = tt
 front-requires : tie.Need-front-requires Inv-loop μ-loop
 front-requires c κs = tt
 
-turn-requires : tie.Need-turn-requires Inv-loop μ-loop
-turn-requires c κs = tt
+step-requires : tie.Need-step-requires Inv-loop μ-loop
+step-requires c κs = tt
+
+loop-less : tie.Need-loop-less Inv-loop μ-loop
+loop-less c = omega (arith, c .before .before .before .before .before .before .before .before .before .before .before .before .before .before .loop-test .taken)
+
+loop-again : tie.Need-loop-again Inv-loop μ-loop
+loop-again c = (omega (arith, c .before .before .before .wa .given, c .before .before .before .before .before .before .before .before .before .before .before .before .before .before .before .loop .inv .0), c .before .before .before .before .before .before .before .before .before .before .before .before .before .before .before .loop .inv .1, omega (arith, c .before .ra .given, c .before .before .before .before .before .before .before .before .before .before .before .before .before .before .before .loop .inv .2), c .before .before .before .before .before .before .before .before .before .before .before .before .before .before .before .loop .inv .3)
 
 ip-packet-requires-2 : tie.Need-ip-packet-requires-2 Inv-loop μ-loop
 ip-packet-requires-2 c κs = tt
@@ -42,14 +48,14 @@ ip-packet-requires-2 c κs = tt
 front-requires-2 : tie.Need-front-requires-2 Inv-loop μ-loop
 front-requires-2 c κs = tt
 
-turn-requires-2 : tie.Need-turn-requires-2 Inv-loop μ-loop
-turn-requires-2 c κs = tt
+step-requires-2 : tie.Need-step-requires-2 Inv-loop μ-loop
+step-requires-2 c κs = tt
 
-loop-less : tie.Need-loop-less Inv-loop μ-loop
-loop-less c = omega (arith, c .before .before .before .before .before .before .before .before .before .before .before .before .before .before .before .before .before .before .before .before .before .before .before .loop-test .taken)
+loop-less-2 : tie.Need-loop-less-2 Inv-loop μ-loop
+loop-less-2 c = omega (arith, c .before .before .before .before .before .before .before .before .before .before .before .before .before .before .loop-test .taken)
 
-loop-again : tie.Need-loop-again Inv-loop μ-loop
-loop-again c = (omega (arith, c .before .before .before .before .before .before .before .before .before .before .before .before .before .wa .given, c .before .before .before .before .before .before .before .before .before .before .before .before .before .before .before .before .before .before .before .before .before .before .before .before .loop .inv .0), omega (arith, c .before .before .before .wb .given, c .before .before .before .before .before .before .before .before .before .before .before .before .before .before .before .before .before .before .before .before .before .before .before .before .loop .inv .1), omega (arith, c .before .before .before .before .before .before .before .before .before .before .before .ra .given, c .before .before .before .before .before .before .before .before .before .before .before .before .before .before .before .before .before .before .before .before .before .before .before .before .loop .inv .2), omega (arith, c .before .rb .given, c .before .before .before .before .before .before .before .before .before .before .before .before .before .before .before .before .before .before .before .before .before .before .before .before .loop .inv .3))
+loop-again-2 : tie.Need-loop-again-2 Inv-loop μ-loop
+loop-again-2 c = (c .before .before .before .before .before .before .before .before .before .before .before .before .before .before .before .loop .inv .0, omega (arith, c .before .before .before .wb .given, c .before .before .before .before .before .before .before .before .before .before .before .before .before .before .before .loop .inv .1), c .before .before .before .before .before .before .before .before .before .before .before .before .before .before .before .loop .inv .2, omega (arith, c .before .rb .given, c .before .before .before .before .before .before .before .before .before .before .before .before .before .before .before .loop .inv .3))
 
 same-length : tie.Need-same-length Inv-loop μ-loop
 same-length c = search needs
@@ -79,12 +85,14 @@ converse-spec =
     cast-n
     ip-packet-requires
     front-requires
-    turn-requires
-    ip-packet-requires-2
-    front-requires-2
-    turn-requires-2
+    step-requires
     loop-less
     loop-again
+    ip-packet-requires-2
+    front-requires-2
+    step-requires-2
+    loop-less-2
+    loop-again-2
     same-length
     same-length-2
     same-length-3
