@@ -1,4 +1,4 @@
--- `ends::meet_each` is safe and ends.
+-- `ends::meet_each` is safe and ends: a meeting keeps the lengths of the buffers.
 use borrow.Author.Needs.{needs}
 use native.Mathlib.Omega.{arith}
 use lib.ListN.{length}
@@ -12,6 +12,12 @@ Inv-loop src wa₀ wb₀ ra₀ rb₀ p₀ t₀ i₀ wa wb ra rb p t i = (length 
 
 abbrev μ-loop : tie.MeasureT-loop
 μ-loop src wa₀ wb₀ ra₀ rb₀ p₀ t₀ i₀ wa wb ra rb p t i = length src - i
+
+fresh-requires : tie.Need-fresh-requires Inv-loop μ-loop
+fresh-requires c κs = tt
+
+new-requires : tie.Need-new-requires Inv-loop μ-loop
+new-requires c κs = tt
 
 loop-holds : tie.Need-loop-holds Inv-loop μ-loop
 loop-holds c = search needs
@@ -55,6 +61,8 @@ meet-each-spec =
     (tie.spec
     Inv-loop
     μ-loop
+    fresh-requires
+    new-requires
     loop-holds
     shared-slice-read-c
     add-i
