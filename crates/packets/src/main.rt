@@ -1,4 +1,4 @@
-// Document 01's examples and limits over negotiation alone, each call with its outcome.
+// Document 01's examples and limits over negotiation and its phases alone, each call with its outcome.
 mod calls;
 mod examples;
 mod limits;
