@@ -16,8 +16,8 @@ use Rattle.framing.specs.declared.frame_reader.FrameReader.{FrameReader}
 use Rattle.framing.proofs.Reader.{consumed-fed, fed-left, Alike, alike-refl}
 use Rattle.phases.specs.Phases.{PppTurn, pppTurned, receivedOf, pollOf, turnOf}
 use Rattle.phases.specs.declared.ppp.Ppp.{Ppp}
-use Rattle.negotiation.specs.Wire.{protocolIn}
-use Rattle.negotiation.specs.declared.refusal.Outcome as negotiation
+use Rattle.options.specs.Wire.{protocolIn}
+use Rattle.options.specs.declared.refusal.Outcome as negotiation
 use Rattle.link.specs.Frames.{frames}
 use Rattle.link.specs.Link.{heldBy, Consumes, linkOf, sent, Poll, echoedIn, byOutcome, answered, isIp, packetPoll, pollLink, actionNumber, transmitted}
 use Rattle.link.specs.declared.refusal.Outcome.{Outcome}

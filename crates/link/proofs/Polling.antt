@@ -19,11 +19,11 @@ use Rattle.framing.specs.declared.frame_reader.FrameReader.{FrameReader}
 use Rattle.framing.specs.declared.frame_reader.Got.{Got}
 use Rattle.framing.specs.declared.frame_reader.Got.the-variants.{Packet, Refused, Nothing}
 use Rattle.framing.proofs.OneAnswer.{gots-differ}
-use Rattle.negotiation.specs.Wire.{protocolIn}
+use Rattle.options.specs.Wire.{protocolIn}
 use Rattle.phases.specs.Phases.{PppTurn, pollOf, turnOf, turnedAs, Turns}
-use Rattle.negotiation.specs.declared.refusal.Refusal as negotiation
-use Rattle.negotiation.specs.declared.refusal.Outcome as negotiated
-use Rattle.negotiation.specs.declared.wire.Replies.{Replies}
+use Rattle.options.specs.declared.refusal.Refusal as negotiation
+use Rattle.options.specs.declared.refusal.Outcome as negotiated
+use Rattle.negotiation.specs.declared.replies.Replies.{Replies}
 use Rattle.phases.specs.declared.ppp.Ppp.{Ppp}
 use Rattle.phases.specs.declared.ppp.Turned.{Turned}
 use Rattle.negotiation.proofs.Sends as sending

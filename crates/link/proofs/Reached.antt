@@ -12,8 +12,8 @@ use Rattle.framing.specs.declared.frame_reader.FrameReader.{FrameReader}
 use Rattle.phases.specs.Phases.{PppTurn, isDead, pollOf, turnOf}
 use Rattle.phases.specs.Sound.{Sound}
 use Rattle.phases.specs.declared.ppp.Phase.the-variants.{Dead}
-use Rattle.negotiation.specs.declared.refusal.Outcome.{Outcome}
-use Rattle.negotiation.specs.declared.refusal.Outcome.the-variants.{Done, Refused}
+use Rattle.options.specs.declared.refusal.Outcome.{Outcome}
+use Rattle.options.specs.declared.refusal.Outcome.the-variants.{Done, Refused}
 use Rattle.negotiation.specs.declared.states.State.the-variants.{Closed}
 use Rattle.phases.proofs.Sounds.{sound-new, sound-open, sound-turn, sound-poll}
 use Rattle.negotiation.proofs.StateTable.{is-closed}

@@ -16,11 +16,12 @@ use Rattle.framing.specs.Rfc1662.{frame}
 use Rattle.framing.specs.Writer.{holds, Encodes, capped}
 use Rattle.framing.specs.declared.refusal.Outcome.{Outcome}
 use Rattle.framing.proofs.Unstuffing.{frame-narrow}
-use Rattle.negotiation.specs.Wire.{pktOf, repliesOf}
+use Rattle.options.specs.Wire.{pktOf}
+use Rattle.negotiation.specs.Replies.{repliesOf}
 use Rattle.phases.specs.Phases.{pollOf, turnOf}
 use Rattle.phases.specs.declared.ppp.Ppp.{Ppp}
-use Rattle.negotiation.proofs.Wires.{content-pkt, len-pkt}
-use Rattle.negotiation.proofs.Proper as packet
+use Rattle.options.proofs.Wires.{content-pkt, len-pkt}
+use Rattle.options.proofs.Fair as packet
 use Rattle.phases.proofs.Phasing.{poll-sends, turn-sends}
 use Rattle.link.specs.Frames.{everyByte, frames, reply, replies, Short}
 

@@ -5,9 +5,9 @@ use Prim.Native.Nat.{ℕ, _≤_}
 use lib.Dec.{ltb}
 use lib.ListN.{getD}
 use Rattle.framing.specs.Rfc1662.{frame}
-use Rattle.negotiation.specs.Wire.{contentOf}
-use Rattle.negotiation.specs.declared.wire.Packet.{Packet}
-use Rattle.negotiation.specs.declared.wire.Replies.{Replies}
+use Rattle.options.specs.Wire.{contentOf}
+use Rattle.options.specs.declared.wire.Packet.{Packet}
+use Rattle.negotiation.specs.declared.replies.Replies.{Replies}
 
 -- until a map is agreed on, every byte below 20 is escaped
 abbrev pub everyByte : ℕ

@@ -11,11 +11,11 @@ use Rattle.framing.specs.declared.frame_reader.Reading.{Reading}
 use Rattle.framing.specs.declared.frame_reader.FrameReader.{FrameReader}
 use Rattle.framing.specs.declared.refusal.Refusal.the-variants as framing
 use Rattle.framing.specs.declared.refusal.Outcome as framed
-use Rattle.negotiation.specs.Wire.{protocolIn}
+use Rattle.options.specs.Wire.{protocolIn}
 use Rattle.phases.specs.Phases.{PppTurn, pollOf, turnOf, openOf, newOf}
 use Rattle.phases.specs.declared.ppp.Ppp.{Ppp}
 use Rattle.phases.specs.declared.ppp.Turned.{Turned}
-use Rattle.negotiation.specs.declared.refusal.Outcome as negotiation
+use Rattle.options.specs.declared.refusal.Outcome as negotiation
 use Rattle.link.specs.Refusal.{numberOf}
 use Rattle.link.specs.Frames.{frames, replies}
 use Rattle.link.specs.declared.refusal.Refusal.{Refusal}

@@ -1,7 +1,7 @@
 -- Document 01's refusal numbers, of all refusals that the link gives.
 use Prim.Native.Nat.{ℕ}
 use Rattle.framing.specs.Refusal as framing
-use Rattle.negotiation.specs.Refusal as negotiation
+use Rattle.options.specs.Refusal as negotiation
 use Rattle.link.specs.declared.refusal.Refusal.{Refusal}
 use Rattle.link.specs.declared.refusal.Refusal.the-variants.{Framing, Negotiation, FramesFull, LinesFull}
 use Rattle.link.specs.declared.refusal.Outcome.{Outcome}

@@ -7,8 +7,8 @@ ghost use Rattle.framing.specs.Rfc1662.{frame};
 ghost use Rattle.link.specs.Frames.{reply, replies, Short};
 use framing::encode::encode;
 use framing::encode::frame_len;
-use negotiation::wire::Packet;
-use negotiation::wire::Replies;
+use negotiation::replies::Replies;
+use options::wire::Packet;
 
 const EVERY_BYTE: u32 = 0xFFFF_FFFF;
 

@@ -58,12 +58,12 @@ const ECHO_REPLY: u8 = 10;
 
 const IPV4: u32 = 0x0021;
 
-fn outcome_of(o: negotiation::refusal::Outcome) -> Outcome
+fn outcome_of(o: options::refusal::Outcome) -> Outcome
     ensures { λ r. ⌜ r ≡ outcomeOf o ⌝ }
 {
     match o {
-        negotiation::refusal::Outcome::Done => Outcome::Done,
-        negotiation::refusal::Outcome::Refused(why) => Outcome::Refused(Refusal::Negotiation(why)),
+        options::refusal::Outcome::Done => Outcome::Done,
+        options::refusal::Outcome::Refused(why) => Outcome::Refused(Refusal::Negotiation(why)),
     }
 }
 
@@ -207,7 +207,7 @@ impl PPPoS {
         ensures { λ p. ⌜ asPoll p (now (tx .exit)) (now (rx .exit)) ≡ replied self r t (now (tx .entry)) (now (rx .entry)) ⌝ }
     {
         let o = t.outcome;
-        if let negotiation::refusal::Outcome::Refused(why) = o {
+        if let options::refusal::Outcome::Refused(why) = o {
             return self.with_reader(r).decline(Refusal::Negotiation(why));
         }
         self.write(r, t, tx, rx)

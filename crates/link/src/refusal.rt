@@ -4,7 +4,7 @@ ghost use Rattle.link.specs.Refusal.{numberOf};
 
 pub enum Refusal {
     Framing(framing::refusal::Refusal),
-    Negotiation(negotiation::refusal::Refusal),
+    Negotiation(options::refusal::Refusal),
     // The frames of a poll do not fit into the transmit buffer.
     FramesFull,
     // The status lines do not fit.
@@ -21,7 +21,7 @@ pub fn number(r: Refusal) -> u8
 {
     match r {
         Refusal::Framing(f) => framing::refusal::number(f),
-        Refusal::Negotiation(n) => negotiation::refusal::number(n),
+        Refusal::Negotiation(n) => options::refusal::number(n),
         Refusal::FramesFull => 1,
         Refusal::LinesFull => 1,
     }

@@ -14,7 +14,7 @@ use Rattle.framing.specs.declared.frame_reader.FrameReader.{FrameReader}
 use Rattle.phases.specs.Phases.{PppTurn, pollOf, turnOf}
 use Rattle.phases.specs.Moves.{Calm}
 use Rattle.phases.specs.declared.ppp.Ppp.{Ppp}
-use Rattle.negotiation.specs.declared.refusal.Outcome.the-variants as negotiation
+use Rattle.options.specs.declared.refusal.Outcome.the-variants as negotiation
 use Rattle.link.specs.Refusal.{outcomeNumber}
 use Rattle.link.specs.Frames.{frames}
 use Rattle.link.specs.Link.{linkOf, heldBy, sent, isIp, packetPoll, pollLink}

@@ -7,20 +7,23 @@ use mathlib.Core.List.{List, [], _∷_}
 use borrow.Author.Tests.{lt-ltb, le-ltb}
 use lib.Dec.{lit<}
 use lib.ListN.{length, take, getD}
-use Rattle.negotiation.specs.declared.options.Reply.{Reply}
+use Rattle.options.specs.declared.walk.Reply.{Reply}
 use Rattle.negotiation.specs.declared.option_fsm.Handled.{Handled}
 use Rattle.negotiation.specs.declared.option_fsm.OptionFsm.{OptionFsm}
-use Rattle.negotiation.specs.declared.proto.Nacked.{Nacked}
-use Rattle.negotiation.specs.declared.refusal.Outcome.the-variants.{Done, Refused}
-use Rattle.negotiation.specs.declared.refusal.Refusal.{Refusal}
-use Rattle.negotiation.specs.declared.refusal.Refusal.the-variants.{EchoEmpty, ReplyLong}
+use Rattle.options.specs.declared.proto.Nacked.{Nacked}
+use Rattle.options.specs.declared.refusal.Outcome.the-variants.{Done, Refused}
+use Rattle.options.specs.declared.refusal.Refusal.{Refusal}
+use Rattle.options.specs.declared.refusal.Refusal.the-variants.{EchoEmpty, ReplyLong}
 use Rattle.negotiation.specs.declared.states.State.{State}
-use Rattle.negotiation.specs.declared.wire.Packet.{Packet}
-use Rattle.negotiation.specs.declared.wire.Replies.{Replies}
-use Rattle.negotiation.specs.Wire.{pktOf, contentOf, packetOf, repliesOf, added}
-use Rattle.negotiation.specs.Proto.{protocolOf, ownOf}
-use Rattle.negotiation.specs.Automaton.{ackResends, afterAck, afterNack, isOpened, handled, refusedTurn, withState, nextId, requestBytes, requested, requestedIn, ackOf, replyBytes, afterReply, reqWith, afterNacked, nackWith, termAckOf, ignoredTurn, echoBytes, echoOf, actOf, lengthField, handleOf}
-use Rattle.negotiation.proofs.Wires.{content-of, add-replies}
+use Rattle.options.specs.declared.wire.Packet.{Packet}
+use Rattle.negotiation.specs.declared.replies.Replies.{Replies}
+use Rattle.options.specs.Wire.{pktOf, contentOf, packetOf}
+use Rattle.negotiation.specs.Replies.{repliesOf, added}
+use Rattle.options.specs.Proto.{protocolOf, ownOf}
+use Rattle.options.specs.Wire.{lengthField}
+use Rattle.negotiation.specs.Automaton.{ackResends, afterAck, afterNack, isOpened, handled, refusedTurn, withState, nextId, requestBytes, requested, requestedIn, ackOf, replyBytes, afterReply, reqWith, afterNacked, nackWith, termAckOf, ignoredTurn, echoBytes, echoOf, actOf, handleOf}
+use Rattle.options.proofs.Wires.{content-of}
+use Rattle.negotiation.proofs.Joining.{add-replies}
 
 -- an own request as the code builds it
 pub request-of : {s : Replies} {i n : ℕ} {o q : Packet} (f : OptionFsm) (r : Replies) → i ≡ nextId (f .id) → n ≡ protocolOf (f .proto)

@@ -1,9 +1,6 @@
 pub mod Automata
-pub mod Judging
+pub mod Joining
 pub mod Paps
 pub mod Proper
-pub mod Replying
 pub mod Sends
 pub mod StateTable
-pub mod Walks
-pub mod Wires

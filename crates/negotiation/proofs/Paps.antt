@@ -17,9 +17,25 @@ use Rattle.negotiation.specs.declared.pap.Pap.{Pap}
 use Rattle.negotiation.specs.declared.pap.PapState.the-variants.{Opened}
 use Rattle.negotiation.specs.Automaton.{nextId}
 use Rattle.negotiation.specs.Pap.{nameLen, passwordLen, nameOf, passwordOf, papWith, credentialBytes, papBytes, fitsCredentials, isPapSent, papActOf, papTurned, papRequested, withPapState}
-use Rattle.negotiation.proofs.Proper.{length-packet}
+use Rattle.options.specs.declared.wire.Packet.{Packet}
+use Rattle.options.specs.Wire.{pktOf, Pushed, pushedAll}
+use Rattle.options.proofs.Fair.{length-packet}
+use Rattle.options.proofs.Wires.{tidy-of, len-of, pushes, pushed-both}
 
 -- ---- credentials
+
+-- four pieces one behind the other in a fresh packet
+pub pushed-four : {p q r s t : Packet} (a b c d : List ℕ) → p ≡ pktOf []
+    → q ≡ pushedAll p a → r ≡ pushedAll q b → s ≡ pushedAll r c → t ≡ pushedAll s d
+    → length a + length b + length c + length d ≤ 128
+    → Pushed p t (a ++ (b ++ (c ++ d))) × (t .len ≡ length a + length b + length c + length d)
+pushed-four a b c d e u v w x h =
+    let n = len-of [] e in
+    let k = pushes u (tidy-of [] e) (omega (arith, n)) in
+    let l = pushes v (k .tidy) (omega (arith, n, k .len)) in
+    let m = pushes w (l .tidy) (omega (arith, n, k .len, l .len)) in
+    let o = pushes x (m .tidy) (omega (arith, n, k .len, l .len, m .len)) in
+    (pushed-both k (pushed-both l (pushed-both m o)), omega (arith, n, k .len, l .len, m .len, o .len))
 
 pub fits-sum : (n m : ℕ) → fitsCredentials n m ≡ true → n + m ≤ 120
 fits-sum n m e =

@@ -1,43 +1,32 @@
 -- What every step keeps: it sends few and short packets, stays with its protocol, and leaves all where it refuses.
 -- Assumes nothing.
-use Prim.Native.Nat.{ℕ, _+_, _*_, _≤_}
-use mathlib.Core.Path.{_≡_, refl, _∙_}
-use mathlib.Core.Bool.{Bool, true, false, cond, true≢false}
+use Prim.Native.Nat.{ℕ, _+_, _≤_}
+use mathlib.Core.Path.{_≡_, refl}
+use mathlib.Core.Bool.{Bool, true, false, true≢false}
 use mathlib.Core.List.{List, [], _∷_, _++_}
-use borrow.Author.Tests.{ltb-false, leb-false}
+use borrow.Author.Tests.{ltb-false}
 use native.Mathlib.Omega.{arith}
-use lib.Dec.{ltb, leb, eqb}
+use lib.Dec.{ltb, eqb}
 use lib.ListN.{length, take, drop, getD, length-append, length-take, length-drop}
-use Rattle.laws.specs.Be.{beBytes}
 use Rattle.laws.specs.Each.{Each}
 use Rattle.laws.proofs.Be.{length-be}
 use Rattle.laws.proofs.Cases.{cond-by, cond-all}
 use Rattle.laws.proofs.Each.{each-append}
+use Rattle.options.specs.declared.walk.Reply.{Reply}
+use Rattle.options.specs.declared.proto.Nacked.{Nacked}
+use Rattle.options.specs.declared.refusal.Outcome.{Outcome}
+use Rattle.options.specs.declared.refusal.Outcome.the-variants.{Done, Refused}
+use Rattle.options.specs.declared.refusal.Refusal.{Refusal}
+use Rattle.options.specs.declared.refusal.Refusal.the-variants.{ConfigureShort, EchoEmpty, ReplyLong}
+use Rattle.options.specs.Refusal.{isDone}
+use Rattle.options.specs.Wire.{contentOf, lengthField}
+use Rattle.options.specs.Options.{walkOf}
+use Rattle.options.specs.Proto.{protocolOf, ownOf}
+use Rattle.options.specs.Reply.{Ready}
+use Rattle.options.proofs.Fair.{isLcp, Short, length-packet, own-short, Fair, fair-answer, nacks-kind}
 use Rattle.negotiation.specs.declared.option_fsm.OptionFsm.{OptionFsm}
-use Rattle.negotiation.specs.declared.options.Reply.{Reply}
-use Rattle.negotiation.specs.declared.proto.Nacked.{Nacked}
-use Rattle.negotiation.specs.declared.proto.Proto.{Proto}
-use Rattle.negotiation.specs.declared.proto.Proto.the-variants.{Lcp, Ipv4cp}
-use Rattle.negotiation.specs.declared.proto.Verdict.{Verdict}
-use Rattle.negotiation.specs.declared.refusal.Outcome.{Outcome}
-use Rattle.negotiation.specs.declared.refusal.Outcome.the-variants.{Done, Refused}
-use Rattle.negotiation.specs.declared.refusal.Refusal.{Refusal}
-use Rattle.negotiation.specs.declared.refusal.Refusal.the-variants.{ConfigureShort, EchoEmpty, ReplyLong}
 use Rattle.negotiation.specs.declared.states.State.the-variants.{ReqSent}
-use Rattle.negotiation.specs.Refusal.{isDone}
-use Rattle.negotiation.specs.Wire.{pktOf, contentOf, packetOf}
-use Rattle.negotiation.specs.Options.{Walk, done, cut, opt, optBytes, sentBack, walkOf}
-use Rattle.negotiation.specs.Proto.{protocolOf, startOf, judgeOf, ownOf, ownNacked, nacksOf}
-use Rattle.negotiation.specs.Reply.{rankOf, freshReply, suggestion, listedOf, stepOf, replyOf, Ready}
-use Rattle.negotiation.specs.Automaton.{ackResends, afterAck, afterTerm, isClosed, isOpened, Turn, turned, refusedTurn, withState, nextId, requestBytes, requested, ackOf, codeOf, replyBytes, afterReply, repliedTurn, unless, reqWith, reqOf, afterNacked, nackWith, nackOf, termAckOf, ignoredTurn, echoBytes, echoOf, actOf, lengthField, handleOf, stepped, rejectBytes, rejectTurn, openedFsm}
-use Rattle.negotiation.proofs.Wires.{tidy-pkt, len-pkt}
-
-abbrev pub isLcp : Proto → Bool
-isLcp (Lcp p) = true
-isLcp (Ipv4cp p) = false
-
-abbrev pub Short : List ℕ → Type 0
-Short l = length l ≤ 128
+use Rattle.negotiation.specs.Automaton.{ackResends, afterAck, afterTerm, isClosed, isOpened, Turn, turned, refusedTurn, withState, nextId, requestBytes, requested, ackOf, codeOf, replyBytes, afterReply, repliedTurn, unless, reqWith, reqOf, afterNacked, nackWith, nackOf, termAckOf, ignoredTurn, echoBytes, echoOf, actOf, handleOf, stepped, rejectBytes, rejectTurn, openedFsm}
 
 -- of a step from f that leaves t
 pub record Proper (f : OptionFsm) (t : Turn) : Type 0 where
@@ -46,97 +35,15 @@ pub record Proper (f : OptionFsm) (t : Turn) : Type 0 where
   pub kind : isLcp (t .fsm .proto) ≡ isLcp (f .proto)
   pub left : isDone (t .outcome) ≡ false → (t .fsm ≡ f) × (t .sent ≡ []) × (t .echoed ≡ false)
 
--- ---- lengths
-
-pub length-packet : (p c i : ℕ) (d : List ℕ) → length (packetOf p c i d) ≡ length d + 6
-length-packet p c i d = simp (length-append, length-be) (omega arith)
-
-own-one : (t : Bool) (c v : ℕ) → length (cond t [] (optBytes c (beBytes 4 v))) ≤ 6
-own-one t c v = cond-all (λ l. length l ≤ 6) t (omega arith) (omega (arith, length-be 4 v))
-
-pub own-short : (p : Proto) → length (ownOf p) ≤ 18
-own-short (Lcp p) = omega (arith, own-one (p .«asyncmap_rej») 2 (p .asyncmap))
-own-short (Ipv4cp p) =
-    let a = own-one (p .address .«is_rejected») 3 (p .address .address) in
-    let b = own-one (p .«dns_server_1» .«is_rejected») 129 (p .«dns_server_1» .address) in
-    let c = own-one (p .«dns_server_2» .«is_rejected») 131 (p .«dns_server_2» .address) in
-    rw (length-append, length-append) (omega arith)
+-- ---- packets
 
 pub request-short : (f : OptionFsm) → length (requestBytes f) ≤ 24
 request-short f = omega (arith, length-packet (protocolOf (f .proto)) 1 (nextId (f .id)) (ownOf (f .proto)), own-short (f .proto))
-
--- ---- the reply to a request
-
--- a reply with room for what may still be listed, in the case k of protocol
-record Fair (k : Bool) (r : Reply) : Type 0 where
-  ready : Ready r
-  kind : isLcp (r .proto) ≡ k
-
-module _ (k : Bool) (r : Reply) (fair : Fair k r) where
-  -- the list stays
-  fair-kept : (o : Outcome) (p : Proto) → isLcp p ≡ k
-      → Fair k (record { outcome = o; verdict = r .verdict; count = r .count; packet = r .packet; proto = p })
-  fair-kept o p e = record { ready = record { tidy = fair .ready .tidy; most = fair .ready .most; room = fair .ready .room }; kind = e }
-
-  fair-listed : (p : Proto) (v : Verdict) (c : ℕ) (d : List ℕ) → isLcp p ≡ k → Fair k (listedOf r p v c d)
-  unfolding listedOf
-  fair-listed p v c d e =
-      cond-all (Fair k) (ltb (rankOf v) (rankOf (r .verdict))) (fair-kept _ p e)
-      (cond-by (Fair k) (ltb 4 (length d)) (λ _. fair-kept _ _ (fair .kind))
-      (λ l. let h = ltb-false 4 (length d) l in
-      cond-all (Fair k) (ltb (rankOf (r .verdict)) (rankOf v)) (listing 1 (optBytes c d) (omega arith) (omega arith))
-      (cond-by (Fair k) (leb 6 (r .count)) (λ _. fair-kept _ _ (fair .kind))
-      (λ m. listing (r .count + 1) (contentOf (r .packet) ++ optBytes c d) (omega (arith, leb-false 6 (r .count) m))
-      (rw (length-append, length-take) (omega (arith, fair .ready .room)))))))
-    where
-      listing : (n : ℕ) (l : List ℕ) → n ≤ 6 → length l ≤ 6 * n
-          → Fair k (record { outcome = Done; verdict = v; count = n; packet = pktOf l; proto = p })
-      listing n l h g = record { ready = record { tidy = tidy-pkt l; most = h; room = omega (arith, len-pkt l) }; kind = e }
-
-judge-kind : (p : Proto) (c : ℕ) (d s : List ℕ) → isLcp (judgeOf p c d s .proto) ≡ isLcp p
-judge-kind (Lcp p) c d s = refl
-judge-kind (Ipv4cp p) c d s = refl
-
-fair-step : (k : Bool) (r : Reply) (c : ℕ) (d : List ℕ) → Fair k r → Fair k (stepOf r c d)
-unfolding stepOf
-fair-step k r c d fair =
-    let j = judgeOf (r .proto) c d suggestion in
-    fair-listed k r fair (j .proto) (j .verdict) c (sentBack (j .verdict) d suggestion) (judge-kind (r .proto) c d suggestion ∙ fair .kind)
-
-fair-reply : (k : Bool) (r : Reply) (w : Walk) → Fair k r → Fair k (replyOf r w)
-unfolding replyOf
-fair-reply k r done fair = fair
-fair-reply k r (cut at) fair = fair-kept k r fair _ _ (fair .kind)
-fair-reply k r (opt c d w) fair =
-    let step = fair-step k r c d fair in
-    cond-all (Fair k) (isDone (stepOf r c d .outcome)) (fair-reply k (stepOf r c d) w step) step
-
-start-kind : (p : Proto) → isLcp (startOf p) ≡ isLcp p
-start-kind (Lcp p) = refl
-start-kind (Ipv4cp p) = refl
-
-fair-answer : (p : Proto) (w : Walk) → Fair (isLcp p) (replyOf (freshReply (startOf p)) w)
-fair-answer p w =
-    fair-reply (isLcp p) (freshReply (startOf p)) w
-    (record { ready = record { tidy = tidy-pkt []; most = omega arith; room = omega (arith, len-pkt []) }; kind = start-kind p })
 
 -- a reply's packet: its header, and six options of six bytes
 reply-short : (i : ℕ) (r : Reply) → Ready r → length (replyBytes i r) ≤ 42
 reply-short i r ready =
     omega (arith, length-packet (protocolOf (r .proto)) (codeOf (r .verdict)) i (contentOf (r .packet)), length-take (r .packet .len) (r .packet .bytes), ready .most, ready .room)
-
--- ---- a Nack's or a Rej's options
-
-nacked-kind : (p : Proto) (c : ℕ) (d : List ℕ) (rej : Bool) → isLcp (ownNacked p c d rej) ≡ isLcp p
-unfolding ownNacked
-nacked-kind (Lcp p) c d rej = refl
-nacked-kind (Ipv4cp p) c d rej = refl
-
-nacks-kind : (rej : Bool) (p : Proto) (w : Walk) → isLcp (nacksOf rej p w .proto) ≡ isLcp p
-unfolding nacksOf
-nacks-kind rej p done = refl
-nacks-kind rej p (cut at) = refl
-nacks-kind rej p (opt c d w) = nacks-kind rej (ownNacked p c d rej) w ∙ nacked-kind p c d rej
 
 -- ---- the steps
 

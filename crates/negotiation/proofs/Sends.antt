@@ -12,9 +12,11 @@ use Rattle.laws.proofs.Each.{each-append}
 use Rattle.negotiation.specs.declared.option_fsm.OptionFsm.{OptionFsm}
 use Rattle.negotiation.specs.declared.pap.Pap.{Pap}
 use Rattle.negotiation.specs.declared.pap.PapState.the-variants.{ReqSent}
-use Rattle.negotiation.specs.Automaton.{lengthField, handleOf, rejectTurn, openedFsm}
+use Rattle.options.specs.Wire.{lengthField}
+use Rattle.negotiation.specs.Automaton.{handleOf, rejectTurn, openedFsm}
 use Rattle.negotiation.specs.Pap.{isPapSent, withPapState, PapTurn, papBytes, papRequested, papActOf, papHandleOf, openedPap}
-use Rattle.negotiation.proofs.Proper.{Short, proper-handle, proper-reject, proper-opened, opened-one}
+use Rattle.options.proofs.Fair.{Short}
+use Rattle.negotiation.proofs.Proper.{proper-handle, proper-reject, proper-opened, opened-one}
 use Rattle.negotiation.proofs.Paps.{pap-short}
 
 -- at most n packets, each of at most 128 bytes

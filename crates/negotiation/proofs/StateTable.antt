@@ -12,18 +12,18 @@ use Rattle.laws.specs.Each.{Each}
 use Rattle.laws.proofs.Cases.{cond-by, cond-all}
 use Rattle.laws.proofs.Each.{each-append}
 use Rattle.negotiation.specs.declared.option_fsm.OptionFsm.{OptionFsm}
-use Rattle.negotiation.specs.declared.options.Reply.{Reply}
-use Rattle.negotiation.specs.declared.proto.Verdict.{Verdict}
-use Rattle.negotiation.specs.declared.proto.Verdict.the-variants.{Ack, Nack, Rej}
-use Rattle.negotiation.specs.declared.refusal.Outcome.{Outcome}
-use Rattle.negotiation.specs.declared.refusal.Outcome.the-variants.{Done, Refused}
-use Rattle.negotiation.specs.declared.refusal.Refusal.{Refusal}
+use Rattle.options.specs.declared.walk.Reply.{Reply}
+use Rattle.options.specs.declared.proto.Verdict.{Verdict}
+use Rattle.options.specs.declared.proto.Verdict.the-variants.{Ack, Nack, Rej}
+use Rattle.options.specs.declared.refusal.Outcome.{Outcome}
+use Rattle.options.specs.declared.refusal.Outcome.the-variants.{Done, Refused}
+use Rattle.options.specs.declared.refusal.Refusal.{Refusal}
 use Rattle.negotiation.specs.declared.states.State.{State}
 use Rattle.negotiation.specs.declared.states.State.the-variants.{Closed, ReqSent, AckReceived, AckSent, Opened}
-use Rattle.negotiation.specs.Wire.{packetOf}
-use Rattle.negotiation.specs.Options.{walkOf}
-use Rattle.negotiation.specs.Proto.{protocolOf, startOf, ownOf, nacksOf}
-use Rattle.negotiation.specs.Reply.{freshReply, replyOf}
+use Rattle.options.specs.Wire.{packetOf}
+use Rattle.options.specs.Options.{walkOf}
+use Rattle.options.specs.Proto.{protocolOf, startOf, ownOf, nacksOf}
+use Rattle.options.specs.Reply.{freshReply, replyOf}
 use Rattle.negotiation.specs.Automaton.{afterAcked, afterNotAcked, afterReq, afterAck, ackResends, afterNack, afterTerm, isClosed, isOpened, Turn, turned, refusedTurn, withState, nextId, requestBytes, requested, ackOf, afterReply, repliedTurn, unless, reqWith, reqOf, afterNacked, nackWith, nackOf, termAckOf, actOf}
 use Rattle.negotiation.specs.StateTable.{Event, reqAcked, reqNotAcked, ack, nackOrRej, terminate, Row, row, table}
 

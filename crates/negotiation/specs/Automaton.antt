@@ -4,21 +4,22 @@ use mathlib.Core.List.{List, [], _∷_, _++_}
 use Prim.Native.Nat.{ℕ, _+_, _%_}
 use lib.Dec.{ltb, eqb}
 use lib.ListN.{length, take, drop, getD}
-use Rattle.laws.specs.Be.{beBytes, beOf}
-use Rattle.negotiation.specs.Wire.{pktOf, contentOf, packetOf, repliesOf, added}
-use Rattle.negotiation.specs.Options.{walkOf}
-use Rattle.negotiation.specs.Proto.{protocolOf, startOf, ownOf, nacksOf}
-use Rattle.negotiation.specs.Reply.{freshReply, replyOf}
-use Rattle.negotiation.specs.declared.refusal.Refusal.{Refusal}
-use Rattle.negotiation.specs.declared.refusal.Refusal.the-variants.{ConfigureShort, EchoEmpty, ReplyLong}
-use Rattle.negotiation.specs.declared.refusal.Outcome.{Outcome}
-use Rattle.negotiation.specs.declared.refusal.Outcome.the-variants.{Done, Refused}
-use Rattle.negotiation.specs.declared.proto.Proto.{Proto}
-use Rattle.negotiation.specs.declared.proto.Nacked.{Nacked}
-use Rattle.negotiation.specs.declared.proto.Verdict.{Verdict}
-use Rattle.negotiation.specs.declared.proto.Verdict.the-variants.{Ack, Nack, Rej}
-use Rattle.negotiation.specs.declared.options.Reply.{Reply}
-use Rattle.negotiation.specs.declared.wire.Replies.{Replies}
+use Rattle.laws.specs.Be.{beBytes}
+use Rattle.options.specs.Wire.{pktOf, contentOf, packetOf, lengthField}
+use Rattle.negotiation.specs.Replies.{repliesOf, added}
+use Rattle.options.specs.Options.{walkOf}
+use Rattle.options.specs.Proto.{protocolOf, startOf, ownOf, nacksOf}
+use Rattle.options.specs.Reply.{freshReply, replyOf}
+use Rattle.options.specs.declared.refusal.Refusal.{Refusal}
+use Rattle.options.specs.declared.refusal.Refusal.the-variants.{ConfigureShort, EchoEmpty, ReplyLong}
+use Rattle.options.specs.declared.refusal.Outcome.{Outcome}
+use Rattle.options.specs.declared.refusal.Outcome.the-variants.{Done, Refused}
+use Rattle.options.specs.declared.proto.Proto.{Proto}
+use Rattle.options.specs.declared.proto.Nacked.{Nacked}
+use Rattle.options.specs.declared.proto.Verdict.{Verdict}
+use Rattle.options.specs.declared.proto.Verdict.the-variants.{Ack, Nack, Rej}
+use Rattle.options.specs.declared.walk.Reply.{Reply}
+use Rattle.negotiation.specs.declared.replies.Replies.{Replies}
 use Rattle.negotiation.specs.declared.states.State.{State}
 use Rattle.negotiation.specs.declared.states.State.the-variants.{Closed, ReqSent, AckReceived, AckSent, Opened}
 use Rattle.negotiation.specs.declared.option_fsm.OptionFsm.{OptionFsm}
@@ -208,10 +209,6 @@ actOf f c i p =
     (cond (eqb c 4) (nackOf f true p)
     (cond (eqb c 5) (termAckOf (withState f (afterTerm (f .state))) i)
     (ignoredTurn f))))))))
-
--- what the Length field says, of a packet with its protocol before it
-abbrev pub lengthField : List ℕ → ℕ
-lengthField p = beOf (take 2 (drop 4 p))
 
 -- a received packet: one that is too short is ignored, and so is what lies behind the Length
 unfoldable pub handleOf : OptionFsm → List ℕ → Turn

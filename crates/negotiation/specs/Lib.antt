@@ -1,10 +1,4 @@
-pub mod Refusal
-pub mod Wire
-pub mod Options
-pub mod Lcp
-pub mod Ipv4cp
-pub mod Proto
-pub mod Reply
+pub mod Replies
 pub mod Automaton
 pub mod StateTable
 pub mod Pap

@@ -4,11 +4,13 @@ use mathlib.Core.List.{List, [], _∷_, _++_}
 use Prim.Native.Nat.{ℕ, _+_, _-_}
 use lib.Dec.{ltb, leb, eqb}
 use lib.ListN.{length, take, drop, getD, replicate}
-use Rattle.negotiation.specs.Wire.{packetOf, repliesOf}
-use Rattle.negotiation.specs.Automaton.{nextId, lengthField}
-use Rattle.negotiation.specs.declared.refusal.Refusal.the-variants.{PapPast}
-use Rattle.negotiation.specs.declared.refusal.Outcome.{Outcome}
-use Rattle.negotiation.specs.declared.refusal.Outcome.the-variants.{Done, Refused}
+use Rattle.options.specs.Wire.{packetOf}
+use Rattle.negotiation.specs.Replies.{repliesOf}
+use Rattle.options.specs.Wire.{lengthField}
+use Rattle.negotiation.specs.Automaton.{nextId}
+use Rattle.options.specs.declared.refusal.Refusal.the-variants.{PapPast}
+use Rattle.options.specs.declared.refusal.Outcome.{Outcome}
+use Rattle.options.specs.declared.refusal.Outcome.the-variants.{Done, Refused}
 use Rattle.negotiation.specs.declared.pap.PapState.{PapState}
 use Rattle.negotiation.specs.declared.pap.PapState.the-variants.{Closed, ReqSent, Opened}
 use Rattle.negotiation.specs.declared.pap.Pap.{Pap}

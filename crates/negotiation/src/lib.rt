@@ -1,11 +1,6 @@
-// PPP negotiation (RFC 1661, 1332, 1877, 1334): packets, options, one automaton for LCP and IPv4CP, and PAP.
+// PPP negotiation (RFC 1661, 1334): one automaton for LCP and IPv4CP, PAP, and the packets that they send.
 // Nothing here knows of framing.
-pub mod ipv4cp;
-pub mod lcp;
 pub mod option_fsm;
-pub mod options;
 pub mod pap;
-pub mod proto;
-pub mod refusal;
+pub mod replies;
 pub mod states;
-pub mod wire;

@@ -2,20 +2,12 @@
 ghost use mathlib.Core.Path.{_≡_};
 ghost use Prim.Native.Nat.{_≤_};
 ghost use lib.ListN.{length};
-ghost use Rattle.negotiation.specs.Wire.{pktOf};
-ghost use Rattle.negotiation.specs.Reply.{Ready};
+ghost use Rattle.options.specs.Wire.{pktOf};
+ghost use Rattle.options.specs.Reply.{Ready};
 ghost use Rattle.negotiation.specs.Automaton.{handled, refusedTurn, withState, requestedIn, ackOf, codeOf, replyBytes, afterReply, reqWith, reqOf, nackWith, nackOf, termAckOf, ignoredTurn, echoBytes, echoOf, actOf, handleOf, rejectTurn, openedFsm};
-use crate::options::Reply;
-use crate::options::answer_options;
-use crate::proto::Nacked;
-use crate::proto::Proto;
-use crate::proto::Verdict;
-use crate::proto::own_options;
-use crate::proto::own_options_nacked;
-use crate::proto::peer_options_start;
-use crate::proto::protocol;
-use crate::refusal::Outcome;
-use crate::refusal::Refusal;
+use crate::replies::Replies;
+use crate::replies::emit;
+use crate::replies::emit_packet;
 use crate::states::State;
 use crate::states::ack_resends;
 use crate::states::after_ack;
@@ -24,22 +16,30 @@ use crate::states::after_req;
 use crate::states::after_term;
 use crate::states::is_closed;
 use crate::states::is_opened;
-use crate::wire::CONFIGURE_ACK;
-use crate::wire::CONFIGURE_NACK;
-use crate::wire::CONFIGURE_REJ;
-use crate::wire::CONFIGURE_REQ;
-use crate::wire::DISCARD_REQ;
-use crate::wire::ECHO_REPLY;
-use crate::wire::ECHO_REQ;
-use crate::wire::LCP;
-use crate::wire::PROTOCOL_REJ;
-use crate::wire::Packet;
-use crate::wire::Replies;
-use crate::wire::TERMINATE_ACK;
-use crate::wire::TERMINATE_REQ;
-use crate::wire::be;
-use crate::wire::emit;
-use crate::wire::emit_packet;
+use options::proto::Nacked;
+use options::proto::Proto;
+use options::proto::Verdict;
+use options::proto::own_options;
+use options::proto::own_options_nacked;
+use options::proto::peer_options_start;
+use options::proto::protocol;
+use options::refusal::Outcome;
+use options::refusal::Refusal;
+use options::walk::Reply;
+use options::walk::answer_options;
+use options::wire::CONFIGURE_ACK;
+use options::wire::CONFIGURE_NACK;
+use options::wire::CONFIGURE_REJ;
+use options::wire::CONFIGURE_REQ;
+use options::wire::DISCARD_REQ;
+use options::wire::ECHO_REPLY;
+use options::wire::ECHO_REQ;
+use options::wire::LCP;
+use options::wire::PROTOCOL_REJ;
+use options::wire::Packet;
+use options::wire::TERMINATE_ACK;
+use options::wire::TERMINATE_REQ;
+use options::wire::length_in;
 
 pub struct OptionFsm {
     pub id: u8,
@@ -81,11 +81,9 @@ fn echo_packet(q: Proto, p: &[u8]) -> Packet
     requires { ⌜ (3 ≤ length (now p)) × (length (now p) ≤ 128) ⌝ }
     ensures { λ r. ⌜ r ≡ pktOf (echoBytes q (now (p .entry))) ⌝ }
 {
-    let code = [ECHO_REPLY];
-    Packet::blank()
-        .push2(protocol(q))
-        .push_all(&code)
-        .push_all(&p[3..])
+    let v = protocol(q);
+    let head = [(v / 256 % 256) as u8, (v % 256) as u8, ECHO_REPLY];
+    Packet::blank().push_all(&head).push_all(&p[3..])
 }
 
 impl OptionFsm {
@@ -305,7 +303,7 @@ impl OptionFsm {
         if p.len() < 6 {
             return self.ignore();
         }
-        let n = be(&p[4..6]) as usize + 2;
+        let n = length_in(p) as usize + 2;
         if p.len() < n {
             return self.ignore();
         }

@@ -4,18 +4,18 @@ ghost use mathlib.Core.List.{[]};
 ghost use Prim.Native.Nat.{_+_, _≤_};
 ghost use lib.ListN.{length};
 ghost use lib.Seq.{sets};
-ghost use Rattle.negotiation.specs.Wire.{pktOf, packetOf};
+ghost use Rattle.options.specs.Wire.{pktOf, packetOf};
 ghost use Rattle.negotiation.specs.Pap.{isPapSent, isPapOpened, fitsCredentials, papWith, freshPap, credentialBytes, papBytes, withPapState, steppedPap, papHandled, papTurned, papRequested, papActOf, papHandleOf, openedPap};
-use crate::refusal::Outcome;
-use crate::refusal::Refusal;
-use crate::wire::CONFIGURE_ACK;
-use crate::wire::CONFIGURE_NACK;
-use crate::wire::CONFIGURE_REQ;
-use crate::wire::PAP;
-use crate::wire::Packet;
-use crate::wire::Replies;
-use crate::wire::be;
-use crate::wire::emit_packet;
+use crate::replies::Replies;
+use crate::replies::emit_packet;
+use options::refusal::Outcome;
+use options::refusal::Refusal;
+use options::wire::CONFIGURE_ACK;
+use options::wire::CONFIGURE_NACK;
+use options::wire::CONFIGURE_REQ;
+use options::wire::PAP;
+use options::wire::Packet;
+use options::wire::length_in;
 
 pub enum PapState {
     Closed,
@@ -174,7 +174,7 @@ impl Pap {
         if p.len() < 6 {
             return self.ignore();
         }
-        let len = be(&p[4..6]) as usize;
+        let len = length_in(p) as usize;
         if p.len() < len {
             return self.ignore();
         }

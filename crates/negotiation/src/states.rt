@@ -1,7 +1,7 @@
 // The states of the automaton, and the table of moves between them.
 ghost use mathlib.Core.Path.{_≡_};
 ghost use Rattle.negotiation.specs.Automaton.{afterAcked, afterNotAcked, afterReq, afterAck, ackResends, afterNack, afterTerm, isClosed, isOpened};
-use crate::proto::Verdict;
+use options::proto::Verdict;
 
 pub enum State {
     Closed,

@@ -11,24 +11,24 @@ use lib.Dec.{ltb, eqb, lit<}
 use lib.ListN.{length, drop, getD, set}
 use Rattle.laws.specs.Each.{Bytes}
 use Rattle.laws.proofs.Cases.{by-le, by-test, cond-both}
-use Rattle.negotiation.specs.Refusal.{numberOf}
-use Rattle.negotiation.specs.Wire.{packetOf, contentOf}
-use Rattle.negotiation.specs.Options.{walkOf}
-use Rattle.negotiation.specs.Proto.{protocolOf}
-use Rattle.negotiation.specs.Reply.{freshReply}
+use Rattle.options.specs.Refusal.{numberOf}
+use Rattle.options.specs.Wire.{packetOf, contentOf}
+use Rattle.options.specs.Options.{walkOf}
+use Rattle.options.specs.Proto.{protocolOf}
+use Rattle.options.specs.Reply.{freshReply}
 use Rattle.negotiation.specs.Automaton as ours
-use Rattle.negotiation.specs.declared.refusal.Refusal.{Refusal}
-use Rattle.negotiation.specs.declared.refusal.Refusal.the-variants.{ConfigureShort, ReplyLong}
-use Rattle.negotiation.specs.declared.refusal.Outcome.the-variants.{Done, Refused}
-use Rattle.negotiation.specs.declared.proto.Proto.{Proto}
-use Rattle.negotiation.specs.declared.proto.Verdict as verdict
-use Rattle.negotiation.specs.declared.proto.Nacked.{Nacked}
-use Rattle.negotiation.specs.declared.options.Reply.{Reply}
+use Rattle.options.specs.declared.refusal.Refusal.{Refusal}
+use Rattle.options.specs.declared.refusal.Refusal.the-variants.{ConfigureShort, ReplyLong}
+use Rattle.options.specs.declared.refusal.Outcome.the-variants.{Done, Refused}
+use Rattle.options.specs.declared.proto.Proto.{Proto}
+use Rattle.options.specs.declared.proto.Verdict as verdict
+use Rattle.options.specs.declared.proto.Nacked.{Nacked}
+use Rattle.options.specs.declared.walk.Reply.{Reply}
 use Rattle.negotiation.specs.declared.option_fsm.OptionFsm as fsm
 use Rattle.negotiation.specs.declared.states.State.{State}
 use Rattle.negotiation.specs.declared.states.State.the-variants.{Closed, ReqSent, AckReceived, AckSent, Opened}
-use Rattle.negotiation.proofs.Wires.{content-pkt}
-use Rattle.negotiation.proofs.Proper.{own-short}
+use Rattle.options.proofs.Wires.{content-pkt}
+use Rattle.options.proofs.Fair.{own-short}
 use Rattle.original.specs.Run.{Place, Run, returns, panics, _>>=_}
 use Rattle.original.specs.Wire.{RawData, Options, PPP, Packet, packetLen}
 use Rattle.original.specs.Fsm as theirs

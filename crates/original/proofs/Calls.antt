@@ -16,10 +16,10 @@ use Rattle.framing.specs.declared.frame_reader.Reading.{Reading}
 use Rattle.framing.specs.declared.frame_reader.Reading.the-variants.{Crate}
 use Rattle.framing.specs.declared.frame_reader.FrameReader.{FrameReader}
 use Rattle.negotiation.specs.Automaton.{isOpened}
-use Rattle.negotiation.specs.Ipv4cp.{shown, shownIp}
+use Rattle.options.specs.Ipv4cp.{shown, shownIp}
 use Rattle.negotiation.specs.Pap.{fitsCredentials}
 use Rattle.phases.specs.Phases.{withPhase, newOf, openOf, statusOf}
-use Rattle.negotiation.specs.declared.ipv4cp.IpOption as ip
+use Rattle.options.specs.declared.ipv4cp.IpOption as ip
 use Rattle.phases.specs.declared.ppp.Phase.{Phase}
 use Rattle.phases.specs.declared.ppp.Phase.the-variants.{Dead, Establish, Auth, Network, Open}
 use Rattle.phases.specs.declared.ppp.Ppp.{Ppp}
@@ -27,7 +27,7 @@ use Rattle.negotiation.proofs.Paps.{fits-sum, credentials-held}
 use Rattle.link.specs.Link.{linkOf, Changes, Consumes}
 use Rattle.link.specs.Refusal.{outcomeNumber}
 use Rattle.link.specs.declared.refusal.Refusal.the-variants.{Negotiation}
-use Rattle.negotiation.specs.declared.refusal.Refusal.the-variants.{CredentialsLong}
+use Rattle.options.specs.declared.refusal.Refusal.the-variants.{CredentialsLong}
 use Rattle.link.specs.declared.refusal.Outcome.{Outcome}
 use Rattle.link.specs.declared.refusal.Outcome.the-variants.{Done, Refused}
 use Rattle.link.specs.declared.pppos.PPPoS.{PPPoS}

@@ -18,7 +18,7 @@ use Rattle.framing.specs.Writer.{Out, write, Ran, units, startUnits, finishUnit
 use Rattle.framing.proofs.Run.{run-next, run-stop, write-closed, fit-all}
 use Rattle.framing.proofs.Frame.{join-frame}
 use Rattle.link.specs.Frames.{everyByte, frames}
-use Rattle.negotiation.proofs.Proper.{Short}
+use Rattle.options.proofs.Fair.{Short}
 use Rattle.original.specs.Run.{Run, returns, panics, replyFull, _>>=_}
 use Rattle.original.specs.Framing.{FrameWriter, start, finish, append}
 use Rattle.original.specs.Wire.{Packet, packetLen, emit}

@@ -13,10 +13,11 @@ use Rattle.laws.specs.Be.{beBytes}
 use Rattle.laws.specs.Each.{Bytes}
 use Rattle.laws.proofs.Be.{length-be}
 use Rattle.laws.proofs.Cases.{by-le, by-test, cond-both}
-use Rattle.negotiation.specs.Proto.{protocolOf}
+use Rattle.options.specs.Wire.{lengthField}
+use Rattle.options.specs.Proto.{protocolOf}
 use Rattle.negotiation.specs.Automaton as ours
-use Rattle.negotiation.specs.declared.refusal.Refusal.the-variants.{EchoEmpty}
-use Rattle.negotiation.specs.declared.proto.Proto.{Proto}
+use Rattle.options.specs.declared.refusal.Refusal.the-variants.{EchoEmpty}
+use Rattle.options.specs.declared.proto.Proto.{Proto}
 use Rattle.negotiation.specs.declared.states.State.{State}
 use Rattle.negotiation.specs.declared.states.State.the-variants.{Closed, ReqSent, AckReceived, AckSent, Opened}
 use Rattle.original.specs.Run.{Run, _>>=_}
@@ -129,7 +130,7 @@ module _ {X P : Type 0} (T : theirs.Protocol P) (inj : X → Proto) (view : X �
       → Same pkt (theirs.handle T (there T inj view stands i s x) pkt) (ours.handleOf (here T inj view stands i s x) pkt)
   unfolding theirs.handle ours.handleOf ours.ignoredTurn
   handle-same i s x pkt small bytes =
-      let n = ours.lengthField pkt + 2 in
+      let n = lengthField pkt + 2 in
       let front = each-take (λ b. b < 256) n pkt bytes in
       cond-both (Same pkt) {t = ltb (length pkt) 6} refl (λ _. plain T inj view stands pkt i s x small none)
       (λ t. let h = ltb-false (length pkt) 6 t in

@@ -10,10 +10,10 @@ use lib.Dec.{eqb}
 use lib.ListN.{length, take, drop}
 use Rattle.laws.proofs.Cases.{by-le, by-test}
 use Rattle.framing.specs.Reader.{isComplete, fetched}
-use Rattle.negotiation.specs.Wire.{protocolIn}
+use Rattle.options.specs.Wire.{protocolIn}
 use Rattle.phases.specs.Phases.{receivedOf}
-use Rattle.negotiation.specs.declared.refusal.Refusal.the-variants.{PacketShort}
-use Rattle.negotiation.specs.declared.refusal.Outcome.the-variants.{Refused}
+use Rattle.options.specs.declared.refusal.Refusal.the-variants.{PacketShort}
+use Rattle.options.specs.declared.refusal.Outcome.the-variants.{Refused}
 use Rattle.link.specs.Frames.{frames}
 use Rattle.link.specs.Link as ours
 use Rattle.link.specs.declared.pppos.PPPoS.{PPPoS}

@@ -11,8 +11,8 @@ use Rattle.laws.specs.Be.{beBytes}
 use Rattle.laws.specs.Each.{Bytes}
 use Rattle.laws.proofs.Be.{length-be}
 use Rattle.laws.proofs.Each.{each-append}
-use Rattle.negotiation.specs.Wire.{packetOf}
-use Rattle.negotiation.specs.Options.{optBytes}
+use Rattle.options.specs.Wire.{packetOf}
+use Rattle.options.specs.Options.{optBytes}
 use Rattle.original.specs.Wire.{ProtocolType, protocolNumber, OptionVal, emitOption, optionsLen, emitOptions, PPPPayload, pppLen, emitPpp, Payload, payloadLen, emitPayload, packetLen, emit, Raw, PPP, RawData, Credentials, Options, Packet}
 use Rattle.original.proofs.Frames.{Carries}
 

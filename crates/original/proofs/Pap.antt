@@ -10,12 +10,12 @@ use lib.Dec.{ltb, eqb, lit<, lit≤}
 use lib.ListN.{length, drop, getD, length-append}
 use Rattle.laws.specs.Each.{Bytes}
 use Rattle.laws.proofs.Cases.{cond-both}
-use Rattle.negotiation.specs.Refusal.{numberOf}
+use Rattle.options.specs.Refusal.{numberOf}
 use Rattle.negotiation.specs.Pap as ours
-use Rattle.negotiation.specs.Automaton.{lengthField}
-use Rattle.negotiation.specs.declared.refusal.Refusal.{Refusal}
-use Rattle.negotiation.specs.declared.refusal.Refusal.the-variants.{PapPast}
-use Rattle.negotiation.specs.declared.refusal.Outcome.the-variants.{Done, Refused}
+use Rattle.options.specs.Wire.{lengthField}
+use Rattle.options.specs.declared.refusal.Refusal.{Refusal}
+use Rattle.options.specs.declared.refusal.Refusal.the-variants.{PapPast}
+use Rattle.options.specs.declared.refusal.Outcome.the-variants.{Done, Refused}
 use Rattle.negotiation.specs.declared.pap.Pap as pap
 use Rattle.negotiation.specs.declared.pap.PapState as papState
 use Rattle.negotiation.proofs.Paps.{credentials-short}

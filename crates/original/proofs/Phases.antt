@@ -11,10 +11,10 @@ use Rattle.negotiation.specs.Automaton.{isClosed, isOpened, nextId, requested, 
 use Rattle.negotiation.specs.Pap as pap
 use Rattle.negotiation.specs.Pap.{openedPap, papRequested, withPapState, steppedPap}
 use Rattle.phases.specs.Phases as ours
-use Rattle.negotiation.specs.declared.lcp.AuthType as auth
-use Rattle.negotiation.specs.declared.lcp.Lcp as lcp
-use Rattle.negotiation.specs.declared.ipv4cp.Ipv4cp as ipv4cp
-use Rattle.negotiation.specs.declared.proto.Proto.the-variants as proto
+use Rattle.options.specs.declared.lcp.AuthType as auth
+use Rattle.options.specs.declared.lcp.Lcp as lcp
+use Rattle.options.specs.declared.ipv4cp.Ipv4cp as ipv4cp
+use Rattle.options.specs.declared.proto.Proto.the-variants as proto
 use Rattle.negotiation.specs.declared.states.State.{State}
 use Rattle.negotiation.specs.declared.states.State.the-variants.{Closed, ReqSent, AckReceived, AckSent, Opened}
 use Rattle.negotiation.specs.declared.pap.Pap as papRecord

@@ -14,7 +14,7 @@ use Rattle.laws.proofs.Stores.{sets-append, sets-front}
 use Rattle.framing.specs.declared.frame_reader.Reading.the-variants.{Crate}
 use Rattle.framing.specs.declared.frame_reader.FrameReader.{FrameReader}
 use Rattle.phases.specs.Phases.{PppTurn, phaseOf}
-use Rattle.negotiation.specs.declared.refusal.Outcome.the-variants.{Done}
+use Rattle.options.specs.declared.refusal.Outcome.the-variants.{Done}
 use Rattle.phases.specs.declared.ppp.Ppp.{Ppp}
 use Rattle.phases.proofs.Phasing.{phase-sends}
 use Rattle.link.specs.Frames.{frames}

@@ -15,11 +15,11 @@ use Rattle.laws.proofs.Cases.{by-le, by-test}
 use Rattle.framing.specs.Reader.{fetched}
 use Rattle.framing.specs.declared.frame_reader.Reading.the-variants.{Crate}
 use Rattle.framing.specs.declared.frame_reader.FrameReader.{FrameReader}
-use Rattle.negotiation.specs.Wire.{protocolIn}
+use Rattle.options.specs.Wire.{protocolIn}
 use Rattle.phases.specs.Phases.{PppTurn, phaseOf, turnOf, receivedOf}
-use Rattle.negotiation.specs.declared.refusal.Refusal.{Refusal}
-use Rattle.negotiation.specs.declared.refusal.Refusal.the-variants.{ReplyLong}
-use Rattle.negotiation.specs.declared.refusal.Outcome.the-variants.{Done, Refused}
+use Rattle.options.specs.declared.refusal.Refusal.{Refusal}
+use Rattle.options.specs.declared.refusal.Refusal.the-variants.{ReplyLong}
+use Rattle.options.specs.declared.refusal.Outcome.the-variants.{Done, Refused}
 use Rattle.phases.specs.declared.ppp.Ppp.{Ppp}
 use Rattle.phases.proofs.Phasing.{turn-refused, turn-done, received-sends}
 use Rattle.link.specs.Frames.{frames}

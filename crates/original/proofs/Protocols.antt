@@ -12,14 +12,14 @@ use Rattle.laws.specs.Be.{beBytes}
 use Rattle.laws.specs.Same.{same}
 use Rattle.laws.proofs.Be.{length-be}
 use Rattle.laws.proofs.Cases.{by-test, cond-all}
-use Rattle.negotiation.specs.Reply.{suggestion}
-use Rattle.negotiation.specs.Lcp as ours
-use Rattle.negotiation.specs.Ipv4cp as ours4
-use Rattle.negotiation.specs.Proto.{ownNacked}
-use Rattle.negotiation.specs.declared.proto.Proto as proto
-use Rattle.negotiation.specs.declared.lcp.Lcp as lcp
-use Rattle.negotiation.specs.declared.ipv4cp.Ipv4cp as ipv4cp
-use Rattle.negotiation.specs.declared.ipv4cp.IpOption as ip
+use Rattle.options.specs.Reply.{suggestion}
+use Rattle.options.specs.Lcp as ours
+use Rattle.options.specs.Ipv4cp as ours4
+use Rattle.options.specs.Proto.{ownNacked}
+use Rattle.options.specs.declared.proto.Proto as proto
+use Rattle.options.specs.declared.lcp.Lcp as lcp
+use Rattle.options.specs.declared.ipv4cp.Ipv4cp as ipv4cp
+use Rattle.options.specs.declared.ipv4cp.IpOption as ip
 use Rattle.original.specs.Run.{returns}
 use Rattle.original.specs.Wire.{OptionVal}
 use Rattle.original.specs.Fsm.{pushOwn}

@@ -11,16 +11,16 @@ use lib.Dec.{ltb, eqb, lit<}
 use lib.ListN.{length, set}
 use Rattle.laws.specs.Each.{Bytes}
 use Rattle.laws.proofs.Cases.{by-test, cond-both}
-use Rattle.negotiation.specs.Refusal.{numberOf}
+use Rattle.options.specs.Refusal.{numberOf}
 use Rattle.negotiation.specs.Automaton as ours
 use Rattle.negotiation.specs.Pap.{PapTurn}
-use Rattle.negotiation.specs.Wire.{protocolIn}
+use Rattle.options.specs.Wire.{protocolIn}
 use Rattle.negotiation.specs.Automaton.{rejectTurn}
 use Rattle.phases.specs.Phases.{PppTurn, lcpTurn, ipv4cpTurn, papTurn, rejectOf, receivedOf}
-use Rattle.negotiation.specs.declared.refusal.Refusal.{Refusal}
-use Rattle.negotiation.specs.declared.refusal.Refusal.the-variants.{PacketShort, ReplyLong}
-use Rattle.negotiation.specs.declared.refusal.Outcome.the-variants.{Done, Refused}
-use Rattle.negotiation.specs.declared.proto.Proto.the-variants as proto
+use Rattle.options.specs.declared.refusal.Refusal.{Refusal}
+use Rattle.options.specs.declared.refusal.Refusal.the-variants.{PacketShort, ReplyLong}
+use Rattle.options.specs.declared.refusal.Outcome.the-variants.{Done, Refused}
+use Rattle.options.specs.declared.proto.Proto.the-variants as proto
 use Rattle.phases.specs.declared.ppp.Ppp as ppp
 use Rattle.original.specs.Run.{Place, Run, returns, panics, _>>=_}
 use Rattle.original.specs.Wire.{Unknown, LCP, RawData, PPP, Packet, packetLen}

@@ -10,21 +10,21 @@ use lib.Dec.{lit≤, lit<}
 use lib.ListN.{length, length-append}
 use Rattle.laws.specs.Each.{Bytes}
 use Rattle.laws.proofs.Cases.{by-le}
-use Rattle.negotiation.specs.Refusal.{numberOf, isDone}
-use Rattle.negotiation.specs.Wire.{pktOf, contentOf}
-use Rattle.negotiation.specs.Options.{Walk, done, cut, opt, optBytes, sentBack}
-use Rattle.negotiation.specs.Proto.{protocolOf, startOf, judgeOf, ownOf, ownNacked, nacksOf}
-use Rattle.negotiation.specs.Reply.{rankOf, suggestion, listedOf, stepOf, replyOf}
+use Rattle.options.specs.Refusal.{numberOf, isDone}
+use Rattle.options.specs.Wire.{pktOf, contentOf}
+use Rattle.options.specs.Options.{Walk, done, cut, opt, optBytes, sentBack}
+use Rattle.options.specs.Proto.{protocolOf, startOf, judgeOf, ownOf, ownNacked, nacksOf}
+use Rattle.options.specs.Reply.{rankOf, suggestion, listedOf, stepOf, replyOf}
 use Rattle.negotiation.specs.Automaton as ours
-use Rattle.negotiation.specs.declared.refusal.Refusal.{Refusal}
-use Rattle.negotiation.specs.declared.refusal.Refusal.the-variants.{OptionCut, OptionLong, OptionsMany}
-use Rattle.negotiation.specs.declared.refusal.Outcome.the-variants.{Done, Refused}
-use Rattle.negotiation.specs.declared.proto.Proto.{Proto}
-use Rattle.negotiation.specs.declared.proto.Verdict as verdict
-use Rattle.negotiation.specs.declared.proto.Nacked.{Nacked}
-use Rattle.negotiation.specs.declared.options.Reply.{Reply}
-use Rattle.negotiation.proofs.Wires.{content-pkt}
-use Rattle.negotiation.proofs.Replying.{listed-lower, listed-long, listed-higher, listed-many, listed-more}
+use Rattle.options.specs.declared.refusal.Refusal.{Refusal}
+use Rattle.options.specs.declared.refusal.Refusal.the-variants.{OptionCut, OptionLong, OptionsMany}
+use Rattle.options.specs.declared.refusal.Outcome.the-variants.{Done, Refused}
+use Rattle.options.specs.declared.proto.Proto.{Proto}
+use Rattle.options.specs.declared.proto.Verdict as verdict
+use Rattle.options.specs.declared.proto.Nacked.{Nacked}
+use Rattle.options.specs.declared.walk.Reply.{Reply}
+use Rattle.options.proofs.Wires.{content-pkt}
+use Rattle.options.proofs.Replying.{listed-lower, listed-long, listed-higher, listed-many, listed-more}
 use Rattle.original.specs.Run.{Place, Run, returns, panics, _>>=_, unwrap, optionsCut}
 use Rattle.original.specs.Wire.{protocolNumber, OptionVal}
 use Rattle.original.specs.Fsm.{Verdict, Ack, Nack, Rej, Protocol, Answer, retOf, rankOption, peerOption, pushOwn, nackOption}

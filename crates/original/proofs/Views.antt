@@ -12,8 +12,8 @@ use Rattle.framing.specs.declared.frame_reader.FrameReader as reader
 use Rattle.framing.specs.declared.frame_reader.Reading.the-variants.{Crate}
 use Rattle.negotiation.specs.Pap.{nameLen, passwordLen, nameOf, passwordOf}
 use Rattle.negotiation.specs.declared.states.State as fsm
-use Rattle.negotiation.specs.declared.lcp.AuthType as auth
-use Rattle.negotiation.specs.declared.ipv4cp.IpOption as ip
+use Rattle.options.specs.declared.lcp.AuthType as auth
+use Rattle.options.specs.declared.ipv4cp.IpOption as ip
 use Rattle.negotiation.specs.declared.pap.PapState as papState
 use Rattle.negotiation.specs.declared.pap.Pap.{Pap}
 use Rattle.phases.specs.declared.ppp.Phase as phase

@@ -7,7 +7,7 @@ use lib.Dec.{ltb}
 use lib.ListN.{length, getD, take, drop}
 use Rattle.laws.specs.Each.{Bytes}
 use Rattle.laws.proofs.Cases.{by-test}
-use Rattle.negotiation.specs.Options.{Walk, done, cut, opt, walkIn, walkFrom, walkOf}
+use Rattle.options.specs.Options.{Walk, done, cut, opt, walkIn, walkFrom, walkOf}
 use Rattle.original.specs.Run.{Run, returns, panics, _>>=_, Result, ok, err}
 use Rattle.original.specs.Fsm.{parseIn, parseOptions}
 use Rattle.original.proofs.Bytes.{each-take, each-drop}

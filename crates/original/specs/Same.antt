@@ -18,9 +18,9 @@ use Rattle.framing.specs.declared.refusal.Refusal.the-variants.{BufferFull, Buf
 use Rattle.framing.specs.declared.refusal.Outcome as framed
 use Rattle.framing.specs.declared.frame_reader.Reading.the-variants.{Crate}
 use Rattle.framing.specs.declared.frame_writer.FrameWriter as writer
-use Rattle.negotiation.specs.Refusal.{numberOf}
-use Rattle.negotiation.specs.declared.refusal.Refusal.{Refusal}
-use Rattle.negotiation.specs.declared.refusal.Refusal.the-variants.{NotDead, CredentialsLong}
+use Rattle.options.specs.Refusal.{numberOf}
+use Rattle.options.specs.declared.refusal.Refusal.{Refusal}
+use Rattle.options.specs.declared.refusal.Refusal.the-variants.{NotDead, CredentialsLong}
 use Rattle.phases.specs.Phases.{newOf, openOf, statusOf}
 use Rattle.negotiation.specs.declared.pap.Pap.{Pap}
 use Rattle.link.specs.Link.{linkOf, Changes, Consumes, Poll, declined, pollLink, Polls, Sends}

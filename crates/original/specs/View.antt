@@ -7,11 +7,11 @@ use Rattle.framing.specs.declared.frame_reader.State as reading
 use Rattle.framing.specs.declared.frame_reader.FrameReader as reader
 use Rattle.negotiation.specs.Pap.{nameOf, passwordOf}
 use Rattle.negotiation.specs.declared.states.State as fsm
-use Rattle.negotiation.specs.declared.lcp.AuthType as auth
-use Rattle.negotiation.specs.declared.lcp.Lcp as lcp
-use Rattle.negotiation.specs.declared.ipv4cp.IpOption as ip
-use Rattle.negotiation.specs.declared.ipv4cp.Ipv4cp as ipv4cp
-use Rattle.negotiation.specs.declared.ipv4cp.Shown as shown
+use Rattle.options.specs.declared.lcp.AuthType as auth
+use Rattle.options.specs.declared.lcp.Lcp as lcp
+use Rattle.options.specs.declared.ipv4cp.IpOption as ip
+use Rattle.options.specs.declared.ipv4cp.Ipv4cp as ipv4cp
+use Rattle.options.specs.declared.ipv4cp.Shown as shown
 use Rattle.negotiation.specs.declared.pap.PapState as papState
 use Rattle.negotiation.specs.declared.pap.Pap as pap
 use Rattle.phases.specs.declared.ppp.Phase as phase

@@ -10,10 +10,10 @@ use crate::show::replies;
 use crate::show::small;
 use crate::show::text;
 use crate::show::word;
-use negotiation::ipv4cp::Shown;
-use negotiation::refusal::Outcome;
-use negotiation::refusal::Refusal;
-use negotiation::refusal::number;
+use options::ipv4cp::Shown;
+use options::refusal::Outcome;
+use options::refusal::Refusal;
+use options::refusal::number;
 use phases::ppp::LcpFsm;
 use phases::ppp::Ppp;
 

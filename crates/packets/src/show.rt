@@ -1,8 +1,8 @@
 // Text to standard output. A write that fails has nowhere to be told, so what it answers is dropped.
 ghost use Prim.Native.Nat.{_≤_};
 ghost use lib.ListN.{length};
-use negotiation::wire::Packet;
-use negotiation::wire::Replies;
+use negotiation::replies::Replies;
+use options::wire::Packet;
 
 pub(crate) fn text(s: &[u8]) {
     io::write_all(libc::STDOUT_FILENO, s);

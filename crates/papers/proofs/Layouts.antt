@@ -9,12 +9,13 @@ use lib.Seq.{take-length, take-append-seam, drop-append-seam, take-append-add}
 use Rattle.laws.specs.Be.{beBytes}
 use Rattle.laws.proofs.Be.{be-round}
 use Rattle.negotiation.specs.declared.pap.Pap.{Pap}
-use Rattle.negotiation.specs.declared.proto.Proto.{Proto}
+use Rattle.options.specs.declared.proto.Proto.{Proto}
 use Rattle.papers.specs.Rfc1334.{Request}
 use Rattle.papers.specs.Rfc1661.{Encapsulated, Packet}
-use Rattle.negotiation.specs.Wire.{packetOf, protocolIn}
-use Rattle.negotiation.specs.Proto.{protocolOf}
-use Rattle.negotiation.specs.Automaton.{nextId, echoBytes, lengthField}
+use Rattle.options.specs.Wire.{packetOf, protocolIn}
+use Rattle.options.specs.Proto.{protocolOf}
+use Rattle.options.specs.Wire.{lengthField}
+use Rattle.negotiation.specs.Automaton.{nextId, echoBytes}
 use Rattle.negotiation.specs.Pap.{nameOf, passwordOf, credentialBytes, papBytes}
 use Rattle.negotiation.proofs.Paps.{credentials-short}
 

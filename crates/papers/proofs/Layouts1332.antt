@@ -9,12 +9,12 @@ use Rattle.laws.specs.Be.{beBytes, beOf}
 use Rattle.laws.specs.Each.{Bytes}
 use Rattle.laws.proofs.Be.{be-round, be-less, be-again, length-be}
 use Rattle.laws.proofs.Cases.{cond-by}
-use Rattle.negotiation.specs.declared.ipv4cp.IpOption.{IpOption}
-use Rattle.negotiation.specs.declared.ipv4cp.Ipv4cp.{Ipv4cp}
-use Rattle.negotiation.specs.declared.proto.Verdict.the-variants.{Ack}
+use Rattle.options.specs.declared.ipv4cp.IpOption.{IpOption}
+use Rattle.options.specs.declared.ipv4cp.Ipv4cp.{Ipv4cp}
+use Rattle.options.specs.declared.proto.Verdict.the-variants.{Ack}
 use Rattle.papers.specs.Rfc1661.{Option, Options}
 use Rattle.papers.specs.Rfc1332.{Address, IpAddress, PrimaryDns, SecondaryDns}
-use Rattle.negotiation.specs.Ipv4cp.{ownIpv4cp, ipNacked, judgeIpv4cp, withPeer}
+use Rattle.options.specs.Ipv4cp.{ownIpv4cp, ipNacked, judgeIpv4cp, withPeer}
 use Rattle.papers.proofs.Layouts1661.{optionAs, laid-both, laid-field}
 
 -- ---- what is written

@@ -14,14 +14,14 @@ use Rattle.laws.specs.Each.{Bytes}
 use Rattle.laws.proofs.Be.{length-be, be-round}
 use Rattle.laws.proofs.Cases.{apart}
 use Rattle.laws.proofs.Each.{each-right}
-use Rattle.negotiation.specs.declared.lcp.Lcp.{Lcp}
-use Rattle.negotiation.specs.declared.proto.Verdict.the-variants.{Ack}
-use Rattle.negotiation.specs.declared.options.Parsed.{Parsed}
-use Rattle.negotiation.specs.declared.options.Parsed.the-variants.{Opt, Cut}
+use Rattle.options.specs.declared.lcp.Lcp.{Lcp}
+use Rattle.options.specs.declared.proto.Verdict.the-variants.{Ack}
+use Rattle.options.specs.declared.walk.Parsed.{Parsed}
+use Rattle.options.specs.declared.walk.Parsed.the-variants.{Opt, Cut}
 use Rattle.papers.specs.Rfc1661.{Option, Options, none, more}
-use Rattle.negotiation.specs.Lcp.{ownLcp, judgeLcp, judgedLcp, withRemote, lcpNacked}
-use Rattle.negotiation.specs.Options.{optionOf, optBytes, Walk, done, cut, opt, walkFrom, walkOf}
-use Rattle.negotiation.proofs.Walks.{Whole, option-whole, walk-done, walk-cut, walk-opt}
+use Rattle.options.specs.Lcp.{ownLcp, judgeLcp, judgedLcp, withRemote, lcpNacked}
+use Rattle.options.specs.Options.{optionOf, optBytes, Walk, done, cut, opt, walkFrom, walkOf}
+use Rattle.options.proofs.Walks.{Whole, option-whole, walk-done, walk-cut, walk-opt}
 
 -- ---- what is written
 

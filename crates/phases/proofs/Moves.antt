@@ -7,14 +7,14 @@ use Prim.Native.Nat.{ℕ, _<_}
 use native.Mathlib.Omega.{arith}
 use Rattle.laws.specs.Be.{beFrom, beBytes}
 use Rattle.laws.specs.Same.{same}
-use Rattle.negotiation.specs.Wire.{pktOf, packetOf}
-use Rattle.negotiation.specs.Options.{walkIn, walkFrom}
-use Rattle.negotiation.specs.Proto.{ownNacked, nacksOf}
-use Rattle.negotiation.specs.Reply.{listedOf, stepOf, replyOf}
+use Rattle.options.specs.Wire.{pktOf, packetOf}
+use Rattle.options.specs.Options.{walkIn, walkFrom}
+use Rattle.options.specs.Proto.{ownNacked, nacksOf}
+use Rattle.options.specs.Reply.{listedOf, stepOf, replyOf}
 use Rattle.negotiation.specs.Automaton.{nextId, requested, ackOf, reqWith, reqOf, nackWith, nackOf, termAckOf, ignoredTurn, echoOf, actOf, handleOf, rejectTurn, openedFsm}
 use Rattle.phases.specs.Phases.{pppTurned, rejectOf, receivedOf, establishOf, authOf, networkOf, phaseOf, openOf, pollOf, turnOf}
 use Rattle.phases.specs.Moves.{Self, selfOf, offer, heard, lcpPacket, hello, ask, grant, deny, lcpAt, ipAt, end, begun, answered, net, Small, Calm, Moves}
-use Rattle.negotiation.specs.declared.lcp.AuthType.the-variants.{None}
+use Rattle.options.specs.declared.lcp.AuthType.the-variants.{None}
 use Rattle.negotiation.specs.declared.states.State.the-variants.{Closed, ReqSent, AckReceived, AckSent, Opened}
 use Rattle.phases.specs.declared.ppp.Phase.the-variants.{Dead, Establish, Network, Open}
 use Rattle.phases.specs.declared.ppp.Ppp.{Ppp}

@@ -2,8 +2,8 @@
 -- Assumes nothing.
 use mathlib.Core.Path.{_≡_, sym, _∙_}
 use mathlib.Core.Bool.{Bool}
-use Rattle.negotiation.specs.declared.refusal.Outcome.{Outcome}
-use Rattle.negotiation.specs.declared.wire.Replies.{Replies}
+use Rattle.options.specs.declared.refusal.Outcome.{Outcome}
+use Rattle.negotiation.specs.declared.replies.Replies.{Replies}
 use Rattle.phases.specs.declared.ppp.Ppp.{Ppp}
 use Rattle.phases.specs.Phases.{PppTurn, Changes, Turns}
 

@@ -7,22 +7,23 @@ use Prim.Native.Nat.{ℕ}
 use lib.Dec.{ltb, eqb}
 use lib.ListN.{length}
 use Rattle.laws.proofs.Cases.{cond-all}
-use Rattle.negotiation.specs.declared.refusal.Refusal.{Refusal}
-use Rattle.negotiation.specs.declared.refusal.Outcome.the-variants.{Done, Refused}
-use Rattle.negotiation.specs.declared.lcp.AuthType.{AuthType}
-use Rattle.negotiation.specs.declared.lcp.AuthType.the-variants.{None}
-use Rattle.negotiation.specs.declared.lcp.AuthType.the-variants as auth
-use Rattle.negotiation.specs.declared.lcp.Lcp as lcp
-use Rattle.negotiation.specs.declared.ipv4cp.Ipv4cp as ipv4cp
-use Rattle.negotiation.specs.declared.proto.Proto.{Proto}
-use Rattle.negotiation.specs.declared.proto.Proto.the-variants as proto
-use Rattle.negotiation.specs.declared.wire.Replies.{Replies}
-use Rattle.negotiation.specs.Refusal.{isDone}
-use Rattle.negotiation.specs.Wire.{protocolIn, joined}
+use Rattle.options.specs.declared.refusal.Refusal.{Refusal}
+use Rattle.options.specs.declared.refusal.Outcome.the-variants.{Done, Refused}
+use Rattle.options.specs.declared.lcp.AuthType.{AuthType}
+use Rattle.options.specs.declared.lcp.AuthType.the-variants.{None}
+use Rattle.options.specs.declared.lcp.AuthType.the-variants as auth
+use Rattle.options.specs.declared.lcp.Lcp as lcp
+use Rattle.options.specs.declared.ipv4cp.Ipv4cp as ipv4cp
+use Rattle.options.specs.declared.proto.Proto.{Proto}
+use Rattle.options.specs.declared.proto.Proto.the-variants as proto
+use Rattle.negotiation.specs.declared.replies.Replies.{Replies}
+use Rattle.options.specs.Refusal.{isDone}
+use Rattle.options.specs.Wire.{protocolIn}
+use Rattle.negotiation.specs.Replies.{joined}
 use Rattle.negotiation.specs.Automaton.{isClosed, isOpened}
 use Rattle.negotiation.specs.Pap.{isPapOpened}
-use Rattle.negotiation.proofs.Wires.{join-replies}
-use Rattle.negotiation.proofs.Proper.{isLcp}
+use Rattle.negotiation.proofs.Joining.{join-replies}
+use Rattle.options.proofs.Fair.{isLcp}
 use Rattle.negotiation.proofs.Sends.{Sends, sends-none, sends-both, handle-sends, reject-sends, opened-sends, pap-sends, pap-opened-sends}
 use Rattle.phases.specs.declared.ppp.Phase.{Phase}
 use Rattle.phases.specs.declared.ppp.Phase.the-variants.{Dead, Establish, Auth, Network, Open}

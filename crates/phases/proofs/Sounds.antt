@@ -8,8 +8,8 @@ use Prim.Native.Nat.{ℕ, _+_}
 use lib.Dec.{ltb, eqb}
 use lib.ListN.{length, take, getD}
 use Rattle.laws.proofs.Cases.{apart, by-test, both, cond-by, cond-all}
-use Rattle.negotiation.specs.declared.lcp.AuthType.{AuthType}
-use Rattle.negotiation.specs.declared.lcp.AuthType.the-variants as authType
+use Rattle.options.specs.declared.lcp.AuthType.{AuthType}
+use Rattle.options.specs.declared.lcp.AuthType.the-variants as authType
 use Rattle.negotiation.specs.declared.option_fsm.OptionFsm.{OptionFsm}
 use Rattle.negotiation.specs.declared.pap.Pap.{Pap}
 use Rattle.negotiation.specs.declared.pap.PapState.{PapState}
@@ -18,15 +18,16 @@ use Rattle.phases.specs.declared.ppp.LcpFsm.{LcpFsm}
 use Rattle.phases.specs.declared.ppp.Phase.{Phase}
 use Rattle.phases.specs.declared.ppp.Phase.the-variants.{Dead, Establish, Auth, Network, Open}
 use Rattle.phases.specs.declared.ppp.Ppp.{Ppp}
-use Rattle.negotiation.specs.declared.proto.Verdict.{Verdict}
-use Rattle.negotiation.specs.declared.proto.Verdict.the-variants.{Ack, Nack, Rej}
-use Rattle.negotiation.specs.declared.refusal.Outcome.{Outcome}
-use Rattle.negotiation.specs.declared.refusal.Outcome.the-variants.{Done, Refused}
+use Rattle.options.specs.declared.proto.Verdict.{Verdict}
+use Rattle.options.specs.declared.proto.Verdict.the-variants.{Ack, Nack, Rej}
+use Rattle.options.specs.declared.refusal.Outcome.{Outcome}
+use Rattle.options.specs.declared.refusal.Outcome.the-variants.{Done, Refused}
 use Rattle.negotiation.specs.declared.states.State.{State}
 use Rattle.negotiation.specs.declared.states.State.the-variants.{Closed, ReqSent, AckReceived, AckSent, Opened}
-use Rattle.negotiation.specs.Refusal.{isDone}
-use Rattle.negotiation.specs.Wire.{protocolIn}
-use Rattle.negotiation.specs.Automaton.{afterAcked, afterNotAcked, afterReq, afterAck, afterNack, afterTerm, isClosed, isOpened, Turn, requested, termAckOf, ackOf, reqOf, nackOf, ignoredTurn, echoOf, actOf, lengthField, handleOf, rejectTurn, openedFsm}
+use Rattle.options.specs.Refusal.{isDone}
+use Rattle.options.specs.Wire.{protocolIn}
+use Rattle.options.specs.Wire.{lengthField}
+use Rattle.negotiation.specs.Automaton.{afterAcked, afterNotAcked, afterReq, afterAck, afterNack, afterTerm, isClosed, isOpened, Turn, requested, termAckOf, ackOf, reqOf, nackOf, ignoredTurn, echoOf, actOf, handleOf, rejectTurn, openedFsm}
 use Rattle.negotiation.specs.Pap.{fitsCredentials, isPapSent, isPapOpened, withPapState, PapTurn, papRequested, papActOf, papHandleOf, openedPap}
 use Rattle.phases.specs.Phases.{freshWith, withPhase, withOpening, withLcp, withPap, withIpv4cp, lcpIn, ipv4cpIn, PppTurn, rejectOf, receivedOf, Step, stepTo, opensLcp, opensIpv4cp, opensPap, closesIpv4cp, closesPap, byAuth, establishOf, authOf, networkOf, settled, phaseOf, pollOf, turnOf, isDead, pppTurned, openOf, newOf}
 use Rattle.phases.specs.Moves.{Calm}

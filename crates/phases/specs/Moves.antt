@@ -6,14 +6,14 @@ use Prim.Native.Nat.{ℕ, _≤_}
 use lib.ListN.{length}
 use Rattle.laws.specs.Be.{beBytes, beOf}
 use Rattle.laws.specs.Each.{Bytes}
-use Rattle.negotiation.specs.Options.{optBytes}
-use Rattle.negotiation.specs.Wire.{packetOf}
+use Rattle.options.specs.Options.{optBytes}
+use Rattle.options.specs.Wire.{packetOf}
 use Rattle.negotiation.specs.Automaton.{nextId}
 use Rattle.negotiation.specs.Pap.{withPapState}
 use Rattle.phases.specs.Phases.{pppTurned, pollOf, turnOf}
-use Rattle.negotiation.specs.declared.lcp.AuthType.{AuthType}
-use Rattle.negotiation.specs.declared.lcp.AuthType.the-variants.{None}
-use Rattle.negotiation.specs.declared.ipv4cp.IpOption.{IpOption}
+use Rattle.options.specs.declared.lcp.AuthType.{AuthType}
+use Rattle.options.specs.declared.lcp.AuthType.the-variants.{None}
+use Rattle.options.specs.declared.ipv4cp.IpOption.{IpOption}
 use Rattle.negotiation.specs.declared.states.State.{State}
 use Rattle.negotiation.specs.declared.states.State.the-variants.{Closed, ReqSent, AckSent, Opened}
 use Rattle.negotiation.specs.declared.pap.Pap.{Pap}

@@ -5,25 +5,26 @@ use mathlib.Core.List.{List, [], _++_}
 use Prim.Native.Nat.{ℕ, _+_}
 use lib.Dec.{ltb, eqb}
 use lib.ListN.{length}
-use Rattle.negotiation.specs.Refusal.{isDone}
-use Rattle.negotiation.specs.Wire.{protocolIn, repliesOf}
-use Rattle.negotiation.specs.Lcp.{freshLcp}
-use Rattle.negotiation.specs.Ipv4cp.{freshIpv4cp, shown, shownIp}
+use Rattle.options.specs.Refusal.{isDone}
+use Rattle.options.specs.Wire.{protocolIn}
+use Rattle.negotiation.specs.Replies.{repliesOf}
+use Rattle.options.specs.Lcp.{freshLcp}
+use Rattle.options.specs.Ipv4cp.{freshIpv4cp, shown, shownIp}
 use Rattle.negotiation.specs.Automaton.{isClosed, isOpened, Turn, handleOf, rejectTurn, openedFsm}
 use Rattle.negotiation.specs.Pap.{isPapOpened, fitsCredentials, papWith, withPapState, PapTurn, papHandleOf, openedPap}
-use Rattle.negotiation.specs.declared.refusal.Refusal.{Refusal}
-use Rattle.negotiation.specs.declared.refusal.Refusal.the-variants.{NotDead, CredentialsLong, PacketShort}
-use Rattle.negotiation.specs.declared.refusal.Outcome.{Outcome}
-use Rattle.negotiation.specs.declared.refusal.Outcome.the-variants.{Done, Refused}
-use Rattle.negotiation.specs.declared.wire.Replies.{Replies}
-use Rattle.negotiation.specs.declared.proto.Proto.{Proto}
-use Rattle.negotiation.specs.declared.proto.Proto.the-variants as proto
-use Rattle.negotiation.specs.declared.lcp.Lcp.{Lcp}
-use Rattle.negotiation.specs.declared.lcp.AuthType.{AuthType}
-use Rattle.negotiation.specs.declared.lcp.AuthType.the-variants.{None, Pap}
-use Rattle.negotiation.specs.declared.ipv4cp.Ipv4cp.{Ipv4cp}
-use Rattle.negotiation.specs.declared.ipv4cp.Shown.{Shown}
-use Rattle.negotiation.specs.declared.ipv4cp.Shown.the-variants.{Absent}
+use Rattle.options.specs.declared.refusal.Refusal.{Refusal}
+use Rattle.options.specs.declared.refusal.Refusal.the-variants.{NotDead, CredentialsLong, PacketShort}
+use Rattle.options.specs.declared.refusal.Outcome.{Outcome}
+use Rattle.options.specs.declared.refusal.Outcome.the-variants.{Done, Refused}
+use Rattle.negotiation.specs.declared.replies.Replies.{Replies}
+use Rattle.options.specs.declared.proto.Proto.{Proto}
+use Rattle.options.specs.declared.proto.Proto.the-variants as proto
+use Rattle.options.specs.declared.lcp.Lcp.{Lcp}
+use Rattle.options.specs.declared.lcp.AuthType.{AuthType}
+use Rattle.options.specs.declared.lcp.AuthType.the-variants.{None, Pap}
+use Rattle.options.specs.declared.ipv4cp.Ipv4cp.{Ipv4cp}
+use Rattle.options.specs.declared.ipv4cp.Shown.{Shown}
+use Rattle.options.specs.declared.ipv4cp.Shown.the-variants.{Absent}
 use Rattle.negotiation.specs.declared.states.State.the-variants.{Closed}
 use Rattle.negotiation.specs.declared.option_fsm.OptionFsm.{OptionFsm}
 use Rattle.negotiation.specs.declared.option_fsm.Handled.{Handled}

@@ -9,12 +9,12 @@ use crate::slots::ipv4cp_in;
 use crate::slots::ipv4cp_out;
 use crate::slots::lcp_in;
 use crate::slots::lcp_out;
-use negotiation::lcp::AuthType;
 use negotiation::pap::is_pap_opened;
+use negotiation::replies::Replies;
 use negotiation::states::State;
 use negotiation::states::is_closed;
 use negotiation::states::is_opened;
-use negotiation::wire::Replies;
+use options::lcp::AuthType;
 
 // What a phase step leaves: the record, and at most one packet.
 pub struct Stepped {

@@ -7,23 +7,23 @@ use crate::slots::ipv4cp_in;
 use crate::slots::ipv4cp_out;
 use crate::slots::lcp_in;
 use crate::slots::lcp_out;
-use negotiation::ipv4cp::Ipv4cp;
-use negotiation::ipv4cp::Shown;
-use negotiation::ipv4cp::show;
-use negotiation::lcp::Lcp;
 use negotiation::option_fsm::Handled;
 use negotiation::pap::Pap;
 use negotiation::pap::is_within;
-use negotiation::refusal::Outcome;
-use negotiation::refusal::Refusal;
+use negotiation::replies::Replies;
 use negotiation::states::State;
 use negotiation::states::is_opened;
-use negotiation::wire::IPV4;
-use negotiation::wire::IPV4CP;
-use negotiation::wire::LCP;
-use negotiation::wire::PAP;
-use negotiation::wire::Replies;
-use negotiation::wire::protocol_in;
+use options::ipv4cp::Ipv4cp;
+use options::ipv4cp::Shown;
+use options::ipv4cp::show;
+use options::lcp::Lcp;
+use options::refusal::Outcome;
+use options::refusal::Refusal;
+use options::wire::IPV4;
+use options::wire::IPV4CP;
+use options::wire::LCP;
+use options::wire::PAP;
+use options::wire::protocol_in;
 
 pub enum Phase {
     Dead,

@@ -5,11 +5,11 @@ use crate::ppp::Ipv4cpFsm;
 use crate::ppp::LcpFsm;
 use crate::ppp::Phase;
 use crate::ppp::Ppp;
-use negotiation::ipv4cp::Ipv4cp;
-use negotiation::lcp::Lcp;
 use negotiation::option_fsm::OptionFsm;
 use negotiation::pap::Pap;
-use negotiation::proto::Proto;
+use options::ipv4cp::Ipv4cp;
+use options::lcp::Lcp;
+use options::proto::Proto;
 
 pub(crate) fn lcp_in(a: LcpFsm) -> OptionFsm
     ensures { λ r. ⌜ r ≡ lcpIn a ⌝ }

@@ -11,18 +11,18 @@ use lib.Dec.{eqb, ltb}
 use lib.ListN.{length, take, drop, getD, length-drop}
 use lib.Seq.{length-take-le}
 use Rattle.laws.proofs.Cases.{by-test, by-le, cond-all, cond-by}
-use Rattle.negotiation.specs.Refusal.{outcomeNumber}
-use Rattle.negotiation.specs.Options.{walkOf}
-use Rattle.negotiation.specs.Proto.{startOf, nacksOf}
-use Rattle.negotiation.specs.Reply.{freshReply, replyOf}
+use Rattle.options.specs.Refusal.{outcomeNumber}
+use Rattle.options.specs.Options.{walkOf}
+use Rattle.options.specs.Proto.{startOf, nacksOf}
+use Rattle.options.specs.Reply.{freshReply, replyOf}
 use Rattle.negotiation.specs.Automaton.{isClosed, isOpened, ackResends, Turn, unless, requested, ackOf, repliedTurn, reqWith, reqOf, nackWith, nackOf, termAckOf, ignoredTurn, echoOf, actOf, handleOf, rejectTurn}
 use Rattle.negotiation.specs.Pap.{isPapSent, PapTurn, papRequested, papActOf, papHandleOf}
 use Rattle.phases.specs.Phases.{lcpIn, ipv4cpIn, PppTurn, rejectOf, receivedOf}
 use Rattle.negotiation.specs.declared.option_fsm.OptionFsm.{OptionFsm}
 use Rattle.phases.specs.declared.ppp.Ppp.{Ppp}
-use Rattle.negotiation.specs.declared.refusal.Outcome.{Outcome}
-use Rattle.negotiation.specs.declared.refusal.Outcome.the-variants.{Done, Refused}
-use Rattle.negotiation.specs.declared.refusal.Refusal.the-variants.{ConfigureShort, EchoEmpty, ReplyLong as LongReply}
+use Rattle.options.specs.declared.refusal.Outcome.{Outcome}
+use Rattle.options.specs.declared.refusal.Outcome.the-variants.{Done, Refused}
+use Rattle.options.specs.declared.refusal.Refusal.the-variants.{ConfigureShort, EchoEmpty, ReplyLong as LongReply}
 use Rattle.negotiation.specs.declared.states.State.{State}
 use Rattle.negotiation.specs.declared.states.State.the-variants.{Closed, ReqSent, AckReceived, AckSent, Opened}
 use Rattle.refusals.specs.Table.{Which, lcp, ipv4cp, protocolAt, codeAt, lengthAt, dataAt, numberFor, stateFor, Heeded, Fault, Broken, LengthShort, OptionFault, ReplyLong}

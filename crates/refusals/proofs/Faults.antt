@@ -11,22 +11,22 @@ use lib.Dec.{eqb, ltb}
 use lib.ListN.{length, take, drop, getD, length-drop}
 use Rattle.laws.specs.Same.{same}
 use Rattle.laws.proofs.Cases.{by-test, by-le}
-use Rattle.negotiation.specs.Refusal.{outcomeNumber}
-use Rattle.negotiation.specs.Options.{done, cut, opt, walkFrom, walkOf, sentBack}
-use Rattle.negotiation.specs.Proto.{startOf, judgeOf, ownNacked, nacksOf}
-use Rattle.negotiation.specs.Reply.{rankOf, freshReply, suggestion, stepOf, replyOf}
-use Rattle.negotiation.specs.declared.options.Parsed.{Parsed}
-use Rattle.negotiation.specs.declared.options.Parsed.the-variants as parsed
-use Rattle.negotiation.specs.declared.options.Reply.{Reply}
-use Rattle.negotiation.specs.declared.proto.Proto.{Proto}
-use Rattle.negotiation.specs.declared.proto.Proto.the-variants.{Lcp, Ipv4cp}
-use Rattle.negotiation.specs.declared.proto.Verdict.{Verdict}
-use Rattle.negotiation.specs.declared.proto.Verdict.the-variants.{Ack, Nack, Rej}
-use Rattle.negotiation.specs.declared.refusal.Outcome.the-variants.{Done, Refused}
-use Rattle.negotiation.specs.declared.refusal.Refusal.{Refusal}
-use Rattle.negotiation.specs.declared.refusal.Refusal.the-variants.{OptionCut, OptionLong, OptionsMany}
-use Rattle.negotiation.proofs.Replying.{listed-lower, listed-long, listed-higher, listed-many, listed-more}
-use Rattle.negotiation.proofs.Walks.{walk-done, walk-cut, walk-opt}
+use Rattle.options.specs.Refusal.{outcomeNumber}
+use Rattle.options.specs.Options.{done, cut, opt, walkFrom, walkOf, sentBack}
+use Rattle.options.specs.Proto.{startOf, judgeOf, ownNacked, nacksOf}
+use Rattle.options.specs.Reply.{rankOf, freshReply, suggestion, stepOf, replyOf}
+use Rattle.options.specs.declared.walk.Parsed.{Parsed}
+use Rattle.options.specs.declared.walk.Parsed.the-variants as parsed
+use Rattle.options.specs.declared.walk.Reply.{Reply}
+use Rattle.options.specs.declared.proto.Proto.{Proto}
+use Rattle.options.specs.declared.proto.Proto.the-variants.{Lcp, Ipv4cp}
+use Rattle.options.specs.declared.proto.Verdict.{Verdict}
+use Rattle.options.specs.declared.proto.Verdict.the-variants.{Ack, Nack, Rej}
+use Rattle.options.specs.declared.refusal.Outcome.the-variants.{Done, Refused}
+use Rattle.options.specs.declared.refusal.Refusal.{Refusal}
+use Rattle.options.specs.declared.refusal.Refusal.the-variants.{OptionCut, OptionLong, OptionsMany}
+use Rattle.options.proofs.Replying.{listed-lower, listed-long, listed-higher, listed-many, listed-more}
+use Rattle.options.proofs.Walks.{walk-done, walk-cut, walk-opt}
 use Rattle.refusals.specs.Table.{Which, lcp, ipv4cp, verdictFor, sizeBack, Cut, Whole, Fault, Broken}
 
 -- ---- one option

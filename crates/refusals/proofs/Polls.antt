@@ -15,13 +15,13 @@ use Rattle.framing.specs.Reader.{isShort, isComplete, fetched}
 use Rattle.framing.specs.declared.frame_reader.FrameReader.{FrameReader}
 use Rattle.framing.specs.declared.frame_reader.State.{State}
 use Rattle.framing.specs.declared.frame_reader.State.the-variants.{Start, Address, Data, Complete}
-use Rattle.negotiation.specs.Refusal.{numberOf, outcomeNumber}
+use Rattle.options.specs.Refusal.{numberOf, outcomeNumber}
 use Rattle.phases.specs.Phases.{PppTurn, receivedOf, pollOf, turnOf}
 use Rattle.phases.specs.declared.ppp.Ppp.{Ppp}
-use Rattle.negotiation.specs.declared.refusal.Outcome.{Outcome}
-use Rattle.negotiation.specs.declared.refusal.Outcome.the-variants.{Done, Refused}
-use Rattle.negotiation.specs.declared.refusal.Refusal.{Refusal}
-use Rattle.negotiation.specs.declared.refusal.Refusal.the-variants.{NotDead, CredentialsLong, PacketShort, ConfigureShort, EchoEmpty, PapPast, OptionCut, OptionLong, OptionsMany, ReplyLong as LongReply}
+use Rattle.options.specs.declared.refusal.Outcome.{Outcome}
+use Rattle.options.specs.declared.refusal.Outcome.the-variants.{Done, Refused}
+use Rattle.options.specs.declared.refusal.Refusal.{Refusal}
+use Rattle.options.specs.declared.refusal.Refusal.the-variants.{NotDead, CredentialsLong, PacketShort, ConfigureShort, EchoEmpty, PapPast, OptionCut, OptionLong, OptionsMany, ReplyLong as LongReply}
 use Rattle.phases.proofs.Phasing.{turn-refused, turn-done}
 use Rattle.link.specs.Frames.{frames}
 use Rattle.link.specs.Link.{heldBy, linkOf, Poll, declined, written, answered, isIp, packetPoll, pollLink, Polls, actionNumber, transmitted}

@@ -12,7 +12,7 @@ use Rattle.framing.specs.Rfc1662.{fields, unit, frame}
 use Rattle.framing.specs.Writer.{join}
 use Rattle.framing.specs.declared.frame_reader.Reading.{Reading}
 use Rattle.framing.specs.declared.frame_reader.State.the-variants.{Start, Address, Complete}
-use Rattle.negotiation.specs.declared.lcp.AuthType.the-variants.{None}
+use Rattle.options.specs.declared.lcp.AuthType.the-variants.{None}
 use Rattle.negotiation.specs.declared.pap.PapState.the-variants as papState
 use Rattle.phases.specs.declared.ppp.Phase.the-variants.{Dead}
 use Rattle.phases.specs.declared.ppp.Ppp.{Ppp}

@@ -14,7 +14,7 @@ use Rattle.framing.proofs.Reader.{consumed-left}
 use Rattle.framing.specs.Reader.{freshReader}
 use Rattle.framing.specs.declared.frame_reader.Reading.{Reading}
 use Rattle.phases.specs.Phases.{newOf, openOf}
-use Rattle.negotiation.proofs.Walks.{rest}
+use Rattle.options.proofs.Walks.{rest}
 use Rattle.link.specs.Link.{Changes, heldBy, Consumes, pollLink, Polls}
 use Rattle.report.specs.Feed.{started, Run, runOf, turned, idleAfter, turns, fedLink, Feeds}
 use Rattle.link.specs.declared.refusal.Outcome.{Outcome}

@@ -13,8 +13,8 @@ use Rattle.laws.proofs.Stores.{sets-append, sets-front, take-sets}
 use Rattle.phases.specs.Phases.{shownIf}
 use Rattle.phases.specs.declared.ppp.Phase.{Phase}
 use Rattle.phases.specs.declared.ppp.Phase.the-variants.{Dead, Establish, Auth, Network, Open}
-use Rattle.negotiation.specs.declared.ipv4cp.Shown.{Shown}
-use Rattle.negotiation.specs.declared.ipv4cp.Shown.the-variants.{Absent, At}
+use Rattle.options.specs.declared.ipv4cp.Shown.{Shown}
+use Rattle.options.specs.declared.ipv4cp.Shown.the-variants.{Absent, At}
 use Rattle.phases.specs.declared.ppp.Status.{Status}
 use Rattle.report.specs.Lines.{phaseName, upName, decimal, dotted, addressText, addressLine, addressKey, peerKey, dns1Key, dns2Key, headOf, linesOf, Puts, Shows}
 use Rattle.link.specs.declared.refusal.Refusal.the-variants.{LinesFull}

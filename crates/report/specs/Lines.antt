@@ -10,8 +10,8 @@ use Rattle.framing.specs.Writer.{over}
 use Rattle.phases.specs.Phases.{shownIf}
 use Rattle.phases.specs.declared.ppp.Phase.{Phase}
 use Rattle.phases.specs.declared.ppp.Phase.the-variants.{Dead, Establish, Auth, Network, Open}
-use Rattle.negotiation.specs.declared.ipv4cp.Shown.{Shown}
-use Rattle.negotiation.specs.declared.ipv4cp.Shown.the-variants.{Absent, At}
+use Rattle.options.specs.declared.ipv4cp.Shown.{Shown}
+use Rattle.options.specs.declared.ipv4cp.Shown.the-variants.{Absent, At}
 use Rattle.phases.specs.declared.ppp.Status.{Status}
 use Rattle.link.specs.declared.refusal.Refusal.the-variants.{LinesFull}
 use Rattle.link.specs.declared.refusal.Outcome.{Outcome}

@@ -6,7 +6,7 @@ ghost use Rattle.phases.specs.Phases.{shownIf};
 ghost use Rattle.report.specs.Lines.{phaseName, upName, decimal, dotted, addressText, addressLine, headOf, linesOf, Puts, Shows};
 use link::refusal::Outcome;
 use link::refusal::Refusal;
-use negotiation::ipv4cp::Shown;
+use options::ipv4cp::Shown;
 use phases::ppp::Phase;
 use phases::ppp::Status;
 

@@ -11,9 +11,9 @@ use Rattle.laws.proofs.Below.{both-left, both-right}
 use Rattle.laws.proofs.Same.{same-eq}
 use Rattle.framing.specs.Rfc1662 as rfc
 use Rattle.framing.specs.Reader as reader
-use Rattle.negotiation.specs.Wire as wire
-use Rattle.negotiation.specs.Options as options
-use Rattle.negotiation.specs.Reply as reply
+use Rattle.options.specs.Wire as wire
+use Rattle.options.specs.Options as options
+use Rattle.options.specs.Reply as reply
 use Rattle.negotiation.specs.Automaton as fsm
 use Rattle.phases.specs.Phases as phases
 use Rattle.link.specs.Frames as frames

@@ -8,7 +8,7 @@ use Rattle.framing.specs.declared.frame_reader.State.{State}
 use Rattle.framing.specs.declared.frame_reader.State.the-variants.{Start, Address, Data, Complete}
 use Rattle.framing.specs.declared.frame_reader.Reading.{Reading}
 use Rattle.framing.specs.declared.frame_reader.Reading.the-variants.{Crate, Standard}
-use Rattle.negotiation.specs.Refusal.{outcomeNumber}
+use Rattle.options.specs.Refusal.{outcomeNumber}
 use Rattle.negotiation.specs.Pap.{papWith, papBytes}
 use Rattle.negotiation.specs.Automaton.{requestBytes}
 use Rattle.phases.specs.Phases.{freshPpp, ipv4cpIn, pollOf, turnOf, openOf, PppTurn}

@@ -1,7 +1,7 @@
 use native.Mathlib.Omega.{arith}
 use Prim.Native.Nat.{ℕ, _+_, _≤_}
 use mathlib.Core.List.{List, append-assoc}
-use Rattle.negotiation.specs.declared.wire.Replies.{Replies}
+use Rattle.negotiation.specs.declared.replies.Replies.{Replies}
 use lib.Dec.{ltb}
 use lib.ListN.{length, length-append}
 use Rattle.link.specs.Frames.{reply, packetAt, replies}

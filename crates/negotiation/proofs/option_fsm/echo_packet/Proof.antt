@@ -1,26 +1,30 @@
 use borrow.Author.Needs.{needs}
+use native.Mathlib.Nat.{div-one}
 use native.Mathlib.Omega.{arith}
 use lib.ListN.{length-take, length-drop}
-use Rattle.laws.proofs.Be.{length-be}
-use Rattle.negotiation.proofs.Wires.{pushed-both, pushed-fresh}
-use Rattle.negotiation.proofs.Walks.{rest}
+use Rattle.laws.specs.Be.{beBytes}
+use Rattle.options.proofs.Wires.{pushed-both, pushed-fresh, pushes}
+use Rattle.options.proofs.Walks.{rest}
 use Rattle.negotiation.proofs.option_fsm.echo_packet.Statement.{statement}
 use Rattle.negotiation.proofs.option_fsm.echo_packet.Tie as tie
-
-blank-requires : tie.Need-blank-requires
-blank-requires c κs = search needs
 
 protocol-requires : tie.Need-protocol-requires
 protocol-requires c κs = search needs
 
-push2-requires : tie.Need-push2-requires
-push2-requires c κs = search needs
+cast-t7 : tie.Need-cast-t7
+cast-t7 c = search needs
+
+cast-t9 : tie.Need-cast-t9
+cast-t9 c = search needs
+
+blank-requires : tie.Need-blank-requires
+blank-requires c κs = search needs
 
 slice-aggregate-push-all : tie.Need-slice-aggregate-push-all
 slice-aggregate-push-all c = search needs
 
 push-all-requires : tie.Need-push-all-requires
-push-all-requires c κs = (search needs, omega (arith, length-be 2 (c .before .before .protocol .result)))
+push-all-requires c κs = search needs
 
 sub-push-all : tie.Need-sub-push-all
 sub-push-all c = search needs
@@ -32,25 +36,26 @@ part-push-all-end : tie.Need-part-push-all-end
 part-push-all-end c = search needs
 
 push-all-requires-2 : tie.Need-push-all-requires-2
-push-all-requires-2 c κs = (search needs, simp (length-take, length-drop) (omega (arith, length-be 2 (c .before .before .before .before .protocol .result))))
+push-all-requires-2 c κs = search needs
 
 returns : tie.Need-returns
+unfolding beBytes
 returns c =
     let b = c .before .before in
-    let a = b .before .before in
-    let q = a .before in
-    let e =
-    pushed-fresh _ (q .before .blank .ensures .0)
-    (pushed-both (a .push2 .ensures) (pushed-both (b .push-all .ensures) (c .push-all2 .ensures))) in
-    rw (← q .protocol .ensures, ← rest (q .before .before .before .args .p .now) 3) e
+    let q = b .before .before in
+    let h = pushes (b .push-all .ensures) (q .blank .ensures .1) (omega arith) in
+    let k = pushes (c .push-all2 .ensures) (h .tidy) (simp (length-take, length-drop) (omega (arith, h .len))) in
+    let e = pushed-fresh _ (q .blank .ensures .0) (pushed-both h k) in
+    simp div-one (rw (← q .before .protocol .ensures, ← rest (q .before .before .before .args .p .now) 3) e)
 
 pub echo-packet-spec : {M : Type 1} → statement M
 echo-packet-spec =
     tie.close
     (tie.spec
-    blank-requires
     protocol-requires
-    push2-requires
+    cast-t7
+    cast-t9
+    blank-requires
     slice-aggregate-push-all
     push-all-requires
     sub-push-all

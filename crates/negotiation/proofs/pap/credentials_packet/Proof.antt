@@ -1,5 +1,7 @@
 use borrow.Author.Needs.{needs}
-use Rattle.negotiation.proofs.Wires.{pushed-both, pushed-fresh, content-of}
+use native.Mathlib.Omega.{arith}
+use Rattle.options.proofs.Wires.{pushed-fresh, content-of}
+use Rattle.negotiation.proofs.Paps.{pushed-four}
 use Rattle.negotiation.proofs.pap.credentials_packet.Statement.{statement}
 use Rattle.negotiation.proofs.pap.credentials_packet.Tie as tie
 
@@ -31,12 +33,19 @@ push-all-requires-4 : tie.Need-push-all-requires-4
 push-all-requires-4 c κs = search needs
 
 emit-packet-requires : tie.Need-emit-packet-requires
-emit-packet-requires c κs = search needs
+emit-packet-requires c κs =
+    let s = c .before .before in
+    let q = s .before .before in
+    let e = pushed-four _ _ _ _ (q .before .before .blank .ensures .0) (q .push-all .ensures) (s .before .push-all2 .ensures) (c .before .push-all3 .ensures) (c .push-all4 .ensures) (omega arith) in
+    (e .0 .tidy, omega (arith, e .1))
 
 returns : tie.Need-returns
 returns c =
-    let all = pushed-both (c .before .before .before .before .before .push-all .ensures) (pushed-both (c .before .before .before .before .push-all2 .ensures) (pushed-both (c .before .before .push-all3 .ensures) (c .before .push-all4 .ensures))) in
-    rw (content-of (pushed-fresh _ (c .before .before .before .before .before .before .before .blank .ensures .0) all)) at (c .emit-packet .ensures)
+    let s = c .before .before .before in
+    let q = s .before .before in
+    let b = q .before .before .blank in
+    let e = pushed-four _ _ _ _ (b .ensures .0) (q .push-all .ensures) (s .before .push-all2 .ensures) (c .before .before .push-all3 .ensures) (c .before .push-all4 .ensures) (omega arith) in
+    rw (content-of (pushed-fresh _ (b .ensures .0) (e .0))) at (c .emit-packet .ensures)
 
 pub credentials-packet-spec : {M : Type 1} → statement M
 credentials-packet-spec =

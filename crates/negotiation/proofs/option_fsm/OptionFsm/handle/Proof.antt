@@ -16,17 +16,8 @@ returns : tie.Need-returns
 unfolding handleOf
 returns c = search (needs, lt-ltb, c .ignore .ensures)
 
-sub-be : tie.Need-sub-be
-sub-be c = search needs
-
-part-be-start : tie.Need-part-be-start
-part-be-start c = search needs
-
-part-be-end : tie.Need-part-be-end
-part-be-end c = search needs
-
-be-requires : tie.Need-be-requires
-be-requires c κs = search needs
+length-in-requires : tie.Need-length-in-requires
+length-in-requires c κs = search needs
 
 cast-n : tie.Need-cast-n
 cast-n c = search needs
@@ -39,8 +30,8 @@ ignore-requires-2 c κs = search needs
 
 returns-2 : tie.Need-returns-2
 returns-2 c =
-    let a = c .before .before .before .before .before .before .args in
-    handle-over (a .self) (a .p .now) (omega arith) (ap (λ (x : ℕ). x + 2) (c .before .before .be .ensures)) (omega arith) (c .ignore2 .ensures)
+    let a = c .before .before .before .before .before .args in
+    handle-over (a .self) (a .p .now) (omega arith) (ap (λ (x : ℕ). x + 2) (c .before .before .length-in .ensures)) (omega arith) (c .ignore2 .ensures)
 
 shared-slice-read-act : tie.Need-shared-slice-read-act
 shared-slice-read-act c = search needs
@@ -56,8 +47,8 @@ act-requires c κs = search needs
 
 returns-3 : tie.Need-returns-3
 returns-3 c =
-    let a = c .before .before .before .before .before .before .before .before .before .args in
-    handle-in (a .self) (a .p .now) (omega arith) (ap (λ (x : ℕ). x + 2) (c .before .before .before .before .before .be .ensures)) (omega arith) (c .act .ensures)
+    let a = c .before .before .before .before .before .before .before .before .args in
+    handle-in (a .self) (a .p .now) (omega arith) (ap (λ (x : ℕ). x + 2) (c .before .before .before .before .before .length-in .ensures)) (omega arith) (c .act .ensures)
 
 pub handle-spec : {M : Type 1} → statement M
 handle-spec =
@@ -65,10 +56,7 @@ handle-spec =
     (tie.spec
     ignore-requires
     returns
-    sub-be
-    part-be-start
-    part-be-end
-    be-requires
+    length-in-requires
     cast-n
     add-n
     ignore-requires-2

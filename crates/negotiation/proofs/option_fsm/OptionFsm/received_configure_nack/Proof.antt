@@ -1,7 +1,7 @@
 use borrow.Author.Tests.{lt-ltb, le-ltb}
 use borrow.Author.Needs.{needs}
 use Rattle.negotiation.specs.Automaton.{nackOf}
-use Rattle.negotiation.proofs.Walks.{rest}
+use Rattle.options.proofs.Walks.{rest}
 use Rattle.negotiation.proofs.option_fsm.OptionFsm.received_configure_nack.Statement.{
   statement,
 }

@@ -1,7 +1,7 @@
 use mathlib.Core.Path.{ap, sym, _∙_}
 use borrow.Author.Needs.{needs}
 use native.Mathlib.Omega.{arith}
-use Rattle.negotiation.specs.declared.wire.Replies.{Replies}
+use Rattle.negotiation.specs.declared.replies.Replies.{Replies}
 use Rattle.negotiation.proofs.Automata.{req-refused, req-resent, req-kept, one-reply}
 use Rattle.negotiation.proofs.option_fsm.OptionFsm.reply.Statement.{statement}
 use Rattle.negotiation.proofs.option_fsm.OptionFsm.reply.Tie as tie

@@ -15,17 +15,8 @@ returns : tie.Need-returns
 unfolding papHandleOf
 returns c = rw (lt-ltb (length (c .before .before .before .args .p .now)) 6 (omega arith)) (c .ignore .ensures)
 
-sub-be : tie.Need-sub-be
-sub-be c = search needs
-
-part-be-start : tie.Need-part-be-start
-part-be-start c = search needs
-
-part-be-end : tie.Need-part-be-end
-part-be-end c = search needs
-
-be-requires : tie.Need-be-requires
-be-requires c κs = search needs
+length-in-requires : tie.Need-length-in-requires
+length-in-requires c κs = search needs
 
 cast-len : tie.Need-cast-len
 cast-len c = search needs
@@ -36,8 +27,8 @@ ignore-requires-2 c κs = search needs
 returns-2 : tie.Need-returns-2
 unfolding papHandleOf
 returns-2 c =
-    let l = length (c .before .before .before .before .before .before .args .p .now) in
-    let n = c .before .before .be in
+    let l = length (c .before .before .before .before .before .args .p .now) in
+    let n = c .before .before .length-in in
     rw (le-ltb l 6 (omega arith), ← n .ensures, lt-ltb l (n .result) (omega arith)) (c .ignore2 .ensures)
 
 add-if3 : tie.Need-add-if3
@@ -49,8 +40,8 @@ none-requires c κs = search needs
 returns-3 : tie.Need-returns-3
 unfolding papHandleOf
 returns-3 c =
-    let l = length (c .before .before .before .before .before .before .before .args .p .now) in
-    let n = c .before .before .before .be in
+    let l = length (c .before .before .before .before .before .before .args .p .now) in
+    let n = c .before .before .before .length-in in
     rw (le-ltb l 6 (omega arith), ← n .ensures, le-ltb l (n .result) (omega arith), lt-ltb l (n .result + 2) (omega arith), c .none .ensures .0) refl
 
 shared-slice-read-act : tie.Need-shared-slice-read-act
@@ -62,8 +53,8 @@ act-requires c κs = search needs
 returns-4 : tie.Need-returns-4
 unfolding papHandleOf
 returns-4 c =
-    let l = length (c .before .before .before .before .before .before .before .before .args .p .now) in
-    let n = c .before .before .before .before .be in
+    let l = length (c .before .before .before .before .before .before .before .args .p .now) in
+    let n = c .before .before .before .before .length-in in
     rw (le-ltb l 6 (omega arith), ← n .ensures, le-ltb l (n .result) (omega arith), le-ltb l (n .result + 2) (omega arith)) (c .act .ensures)
 
 pub handle-spec : {M : Type 1} → statement M
@@ -72,10 +63,7 @@ handle-spec =
     (tie.spec
     ignore-requires
     returns
-    sub-be
-    part-be-start
-    part-be-end
-    be-requires
+    length-in-requires
     cast-len
     ignore-requires-2
     returns-2

@@ -2,7 +2,7 @@ use mathlib.Core.Path.{_≡_, refl, ap, sym, _∙_}
 use mathlib.Core.Bool.{true, false}
 use borrow.Author.Needs.{needs}
 use Rattle.phases.specs.declared.ppp.Ppp.{Ppp}
-use Rattle.negotiation.specs.declared.lcp.AuthType.{AuthType}
+use Rattle.options.specs.declared.lcp.AuthType.{AuthType}
 use Rattle.phases.specs.Phases.{byAuth, steppedAs, establishOf}
 use Rattle.negotiation.specs.Automaton.{isClosed, isOpened}
 use Rattle.phases.proofs.ppp.Ppp.establish.Statement.{statement}

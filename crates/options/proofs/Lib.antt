@@ -1,0 +1,5 @@
+pub mod Fair
+pub mod Judging
+pub mod Replying
+pub mod Walks
+pub mod Wires

@@ -1,0 +1,28 @@
+-- Document 01's refusal numbers, of the refusals that negotiation gives.
+use mathlib.Core.Bool.{Bool, true, false}
+use Prim.Native.Nat.{ℕ}
+use Rattle.options.specs.declared.refusal.Refusal.{Refusal}
+use Rattle.options.specs.declared.refusal.Refusal.the-variants.{NotDead, CredentialsLong, PacketShort, ConfigureShort, EchoEmpty, PapPast, OptionCut, OptionLong, OptionsMany, ReplyLong}
+use Rattle.options.specs.declared.refusal.Outcome.{Outcome}
+use Rattle.options.specs.declared.refusal.Outcome.the-variants.{Done, Refused}
+
+abbrev pub numberOf : Refusal → ℕ
+numberOf NotDead = 2
+numberOf CredentialsLong = 4
+numberOf PacketShort = 5
+numberOf ConfigureShort = 6
+numberOf EchoEmpty = 6
+numberOf PapPast = 6
+numberOf (OptionCut at) = 7
+numberOf OptionLong = 8
+numberOf OptionsMany = 9
+numberOf ReplyLong = 10
+
+-- 0 where nothing was refused
+abbrev pub outcomeNumber : Outcome → ℕ
+outcomeNumber Done = 0
+outcomeNumber (Refused r) = numberOf r
+
+abbrev pub isDone : Outcome → Bool
+isDone Done = true
+isDone (Refused r) = false
