@@ -7,8 +7,6 @@ pub enum Refusal {
     Negotiation(options::refusal::Refusal),
     // The frames of a poll do not fit into the transmit buffer.
     FramesFull,
-    // The status lines do not fit.
-    LinesFull,
 }
 
 pub enum Outcome {
@@ -23,6 +21,5 @@ pub fn number(r: Refusal) -> u8
         Refusal::Framing(f) => framing::refusal::number(f),
         Refusal::Negotiation(n) => options::refusal::number(n),
         Refusal::FramesFull => 1,
-        Refusal::LinesFull => 1,
     }
 }

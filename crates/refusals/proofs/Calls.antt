@@ -26,6 +26,8 @@ use Rattle.phases.specs.declared.ppp.Phase.the-variants.{Dead, Establish, Auth,
 use Rattle.phases.specs.declared.ppp.Status.{Status}
 use Rattle.negotiation.proofs.Paps.{fits-sum}
 use Rattle.link.proofs.Passing.{consumes-number, sends-number}
+use Rattle.framing.specs.Refusal as framing
+use Rattle.framing.specs.declared.refusal.Outcome as framed
 use Rattle.link.specs.Refusal.{outcomeNumber}
 use Rattle.link.specs.Link.{heldBy, Changes, Consumes, ipFrame, remoteMap, Sends}
 use Rattle.report.specs.Lines.{linesOf, Shows}
@@ -130,9 +132,9 @@ send-first l pkt tx c =
 
 -- ---- status lines
 
-pub lines-first : (s : Status) (buf : List ℕ) {o : Outcome} {n : ℕ} {buf′ : List ℕ} → Shows s buf o n buf′
-    → First (outcomeNumber o) (record { count = n; bytes = buf′ }) (linesRows (linesOf s) buf)
+pub lines-first : (s : Status) (buf : List ℕ) {o : framed.Outcome} {n : ℕ} {buf′ : List ℕ} → Shows s buf o n buf′
+    → First (framing.outcomeNumber o) (record { count = n; bytes = buf′ }) (linesRows (linesOf s) buf)
 lines-first s buf c =
     by-test (leb (length (linesOf s)) (length buf))
-    (λ e. inr ((λ h. omega (arith, leb-true (length (linesOf s)) (length buf) e)), ap outcomeNumber (c .outcome) ∙ rw e refl))
-    (λ e. inl (ap outcomeNumber (c .outcome) ∙ rw e refl, leb-false (length (linesOf s)) (length buf) e, (c .count ∙ rw e refl, c .bytes ∙ rw e refl)))
+    (λ e. inr ((λ h. omega (arith, leb-true (length (linesOf s)) (length buf) e)), ap framing.outcomeNumber (c .outcome) ∙ rw e refl))
+    (λ e. inl (ap framing.outcomeNumber (c .outcome) ∙ rw e refl, leb-false (length (linesOf s)) (length buf) e, (c .count ∙ rw e refl, c .bytes ∙ rw e refl)))

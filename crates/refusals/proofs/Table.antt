@@ -8,6 +8,8 @@ use Rattle.framing.specs.Reader.{freshReader}
 use Rattle.framing.specs.declared.frame_reader.Reading.{Reading}
 use Rattle.phases.specs.Phases.{openOf, newOf}
 use Rattle.phases.specs.declared.ppp.Status.{Status}
+use Rattle.framing.specs.Refusal as framing
+use Rattle.framing.specs.declared.refusal.Outcome as framed
 use Rattle.link.specs.Refusal.{outcomeNumber}
 use Rattle.link.specs.Link.{Changes, Consumes, pollLink, Polls, actionNumber, Sends, transmitted}
 use Rattle.report.specs.Lines.{linesOf, Shows}
@@ -38,8 +40,8 @@ pub record TableHolds : Type 0 where
   pub poll : (l : PPPoS) (rx : List ℕ) → PollHolds l rx
   pub send : (l : PPPoS) (pkt tx : List ℕ) {o : Outcome} {n : ℕ} {tx′ : List ℕ} → Sends l pkt tx o n tx′
       → Exactly ⊥ (sendRows l pkt tx) (outcomeNumber o) (record { count = n; bytes = tx′ })
-  pub lines : (s : Status) (buf : List ℕ) {o : Outcome} {n : ℕ} {buf′ : List ℕ} → Shows s buf o n buf′
-      → Exactly ⊥ (linesRows (linesOf s) buf) (outcomeNumber o) (record { count = n; bytes = buf′ })
+  pub lines : (s : Status) (buf : List ℕ) {o : framed.Outcome} {n : ℕ} {buf′ : List ℕ} → Shows s buf o n buf′
+      → Exactly ⊥ (linesRows (linesOf s) buf) (framing.outcomeNumber o) (record { count = n; bytes = buf′ })
 
 poll-holds : (l : PPPoS) (rx : List ℕ) → PollHolds l rx
 poll-holds l rx =

@@ -17,9 +17,9 @@ use Rattle.options.specs.declared.ipv4cp.Shown.{Shown}
 use Rattle.options.specs.declared.ipv4cp.Shown.the-variants.{Absent, At}
 use Rattle.phases.specs.declared.ppp.Status.{Status}
 use Rattle.report.specs.Lines.{phaseName, upName, decimal, dotted, addressText, addressLine, addressKey, peerKey, dns1Key, dns2Key, headOf, linesOf, Puts, Shows}
-use Rattle.link.specs.declared.refusal.Refusal.the-variants.{LinesFull}
-use Rattle.link.specs.declared.refusal.Outcome.{Outcome}
-use Rattle.link.specs.declared.refusal.Outcome.the-variants.{Done, Refused}
+use Rattle.framing.specs.declared.refusal.Refusal.the-variants.{BufferFull}
+use Rattle.framing.specs.declared.refusal.Outcome.{Outcome}
+use Rattle.framing.specs.declared.refusal.Outcome.the-variants.{Done, Refused}
 
 -- a text behind another
 pub joined : {x y buf mid buf′ : List ℕ} {at i end : ℕ} → Puts x buf at i mid → Puts y mid i end buf′ → Puts (x ++ y) buf at end buf′
@@ -110,7 +110,7 @@ lines-short s = simp length-append (omega (arith, last-room s, line-short dns2Ke
 pub lines-front : {text : List ℕ} {end : ℕ} (s : Status) → Puts (linesOf s) (replicate 111 0) 0 end text → take end text ≡ linesOf s
 lines-front s p = rw (p .ends, p .bytes, take-sets (linesOf s) (replicate 111 0) 0 (rw length-replicate (omega (arith, lines-short s))))
 
-pub lines-refused : (s : Status) (buf : List ℕ) → length buf < length (linesOf s) → Shows s buf (Refused LinesFull) 0 buf
+pub lines-refused : (s : Status) (buf : List ℕ) → length buf < length (linesOf s) → Shows s buf (Refused BufferFull) 0 buf
 lines-refused s buf h =
     let e = lt-leb (length (linesOf s)) (length buf) h in
     record { outcome = rw e; count = rw e; bytes = rw e }

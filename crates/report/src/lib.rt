@@ -1,3 +1,2 @@
-// The status lines, and the run that leads to them: received bytes handed to a link with a poll after each.
-pub mod feed;
+// What shows of a link, as text.
 pub mod status;

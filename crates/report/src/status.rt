@@ -4,8 +4,8 @@ ghost use Prim.Native.Nat.{_+_, _≤_, _<_};
 ghost use lib.ListN.{length};
 ghost use Rattle.phases.specs.Phases.{shownIf};
 ghost use Rattle.report.specs.Lines.{phaseName, upName, decimal, dotted, addressText, addressLine, headOf, linesOf, Puts, Shows};
-use link::refusal::Outcome;
-use link::refusal::Refusal;
+use framing::refusal::Outcome;
+use framing::refusal::Refusal;
 use options::ipv4cp::Shown;
 use phases::ppp::Phase;
 use phases::ppp::Status;
@@ -145,7 +145,7 @@ pub fn lines(s: Status, out: &mut [u8]) -> Written
     let n = put_lines(&mut text, s);
     if out.len() < n {
         return Written {
-            outcome: Outcome::Refused(Refusal::LinesFull),
+            outcome: Outcome::Refused(Refusal::BufferFull),
             count: 0,
         };
     }

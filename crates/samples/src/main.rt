@@ -1,9 +1,9 @@
 // The status lines of recorded negotiations, each below the name of its file.
+use feeding::feed::feed;
+use feeding::feed::start;
 use framing::frame_reader::Reading;
 use libc::STDOUT_FILENO;
 use link::pppos::PPPoS;
-use report::feed::feed;
-use report::feed::start;
 use report::status::lines;
 
 fn played(bytes: &[u8]) -> PPPoS {

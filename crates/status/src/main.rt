@@ -1,10 +1,10 @@
 // Reads received serial bytes from standard input and prints what they make of a fresh link: the six status lines.
+use feeding::feed::feed;
+use feeding::feed::start;
 use framing::frame_reader::Reading;
 use libc::STDIN_FILENO;
 use libc::STDOUT_FILENO;
 use link::pppos::PPPoS;
-use report::feed::feed;
-use report::feed::start;
 use report::status::lines;
 
 struct Step {

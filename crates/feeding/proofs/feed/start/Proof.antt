@@ -1,7 +1,7 @@
-use Rattle.report.proofs.Feeding.{start-polls}
+use Rattle.feeding.proofs.Feeding.{start-polls}
 use borrow.Author.Needs.{needs}
-use Rattle.report.proofs.feed.start.Statement.{statement}
-use Rattle.report.proofs.feed.start.Tie as tie
+use Rattle.feeding.proofs.feed.start.Statement.{statement}
+use Rattle.feeding.proofs.feed.start.Tie as tie
 
 slice-aggregate-new : tie.Need-slice-aggregate-new
 slice-aggregate-new c = search needs

@@ -1,12 +1,12 @@
 use borrow.Author.Needs.{needs}
-use Rattle.report.proofs.Feeding.{Ahead, starts, within, again, finished, fewer, idle-most}
+use Rattle.feeding.proofs.Feeding.{Ahead, starts, within, again, finished, fewer, idle-most}
 use native.Mathlib.Omega.{arith}
 use mathlib.Core.Path.{_≡_, refl}
 use Prim.Native.Nat.{_+_, _-_, _*_, _≤_}
 use lib.ListN.{length, drop}
-use Rattle.report.specs.Feed.{runOf, fedLink}
-use Rattle.report.proofs.feed.feed.Statement.{statement}
-use Rattle.report.proofs.feed.feed.Tie as tie
+use Rattle.feeding.specs.Feed.{runOf, fedLink}
+use Rattle.feeding.proofs.feed.feed.Statement.{statement}
+use Rattle.feeding.proofs.feed.feed.Tie as tie
 
 abbrev Inv-loop : tie.InvT-loop
 Inv-loop tx₀ rx₀ src l₀ at₀ idle₀ tx rx l at idle =

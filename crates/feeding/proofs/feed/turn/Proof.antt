@@ -1,7 +1,7 @@
-use Rattle.report.proofs.Feeding.{turn-feeds}
+use Rattle.feeding.proofs.Feeding.{turn-feeds}
 use borrow.Author.Needs.{needs}
-use Rattle.report.proofs.feed.turn.Statement.{statement}
-use Rattle.report.proofs.feed.turn.Tie as tie
+use Rattle.feeding.proofs.feed.turn.Statement.{statement}
+use Rattle.feeding.proofs.feed.turn.Tie as tie
 
 consume-requires : tie.Need-consume-requires
 consume-requires c κs = search needs

@@ -16,7 +16,7 @@ use Rattle.framing.specs.declared.frame_reader.Reading.{Reading}
 use Rattle.phases.specs.Phases.{newOf, openOf}
 use Rattle.options.proofs.Walks.{rest}
 use Rattle.link.specs.Link.{Changes, heldBy, Consumes, pollLink, Polls}
-use Rattle.report.specs.Feed.{started, Run, runOf, turned, idleAfter, turns, fedLink, Feeds}
+use Rattle.feeding.specs.Feed.{started, Run, runOf, turned, idleAfter, turns, fedLink, Feeds}
 use Rattle.link.specs.declared.refusal.Outcome.{Outcome}
 use Rattle.link.specs.declared.pppos.PPPoS.{PPPoS}
 use Rattle.link.specs.declared.pppos.PPPoSAction.{PPPoSAction}

@@ -2,7 +2,7 @@
 ghost use mathlib.Core.Path.{_≡_};
 ghost use Prim.Native.Nat.{_<_};
 ghost use Rattle.link.specs.Link.{Polls};
-ghost use Rattle.report.specs.Feed.{started, runOf, turned, idleAfter, fedLink, Feeds};
+ghost use Rattle.feeding.specs.Feed.{started, runOf, turned, idleAfter, fedLink, Feeds};
 use framing::frame_reader::Reading;
 use link::pppos::PPPoS;
 use link::pppos::Polled;

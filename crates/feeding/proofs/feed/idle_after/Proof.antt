@@ -1,7 +1,7 @@
 use borrow.Author.Tests.{eq-eqb, ne-eqb}
 use borrow.Author.Needs.{needs}
-use Rattle.report.proofs.feed.idle_after.Statement.{statement}
-use Rattle.report.proofs.feed.idle_after.Tie as tie
+use Rattle.feeding.proofs.feed.idle_after.Statement.{statement}
+use Rattle.feeding.proofs.feed.idle_after.Tie as tie
 
 add-result : tie.Need-add-result
 add-result c = search needs
