@@ -1,4 +1,5 @@
 pub mod Moves
 pub mod OneAnswer
 pub mod Phasing
+pub mod Resting
 pub mod Sounds

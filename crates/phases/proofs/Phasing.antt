@@ -2,7 +2,7 @@
 -- Assumes nothing.
 use mathlib.Core.Path.{_≡_, refl, ap, sym, _∙_}
 use mathlib.Core.Bool.{true, false, true≢false, false≢true}
-use mathlib.Core.List.{List, [], _++_}
+use mathlib.Core.List.{List, [], _++_, append-nil}
 use Prim.Native.Nat.{ℕ}
 use lib.Dec.{ltb, eqb}
 use lib.ListN.{length}
@@ -30,7 +30,8 @@ use Rattle.phases.specs.declared.ppp.Phase.the-variants.{Dead, Establish
 use Rattle.phases.specs.declared.ppp.Ppp.{Ppp}
 use Rattle.phases.specs.declared.ppp.Turned.{Turned}
 use Rattle.phases.specs.declared.phase.Stepped.{Stepped}
-use Rattle.phases.specs.Phases.{lcpIn, lcpOr, ipv4cpIn, ipv4cpOr, PppTurn, Step, pppRefused, rejectOf, receivedOf, byAuth, establishOf, authOf, networkOf, byPhase, phaseOf, pollOf, turnOf, isDead, openOf, turnedAs, steppedAs, Turns}
+use Rattle.phases.specs.Phases.{lcpIn, lcpOr, ipv4cpIn, ipv4cpOr, PppTurn, Step, pppRefused, rejectOf, receivedOf, byAuth, establishOf, authOf, networkOf, byPhase, phaseOf, restsOf, pollOf, turnOf, isDead, openOf, turnedAs, steppedAs, Turns}
+use Rattle.phases.proofs.Resting.{rests-still}
 
 -- ---- a turn, by its outcome
 
@@ -114,6 +115,12 @@ module _ (p : Ppp) (pkt : List ℕ) {t : Turned} (et : t ≡ turnedAs (receivedO
       → Turns (turnOf p pkt) (r .outcome) (r .echoed) (r .ppp) (r .replies)
   turns-refused eo er =
       rw (turn-refused p pkt (sym (ap (λ (x : Turned). x .outcome) et) ∙ eo), er) (record { outcome = refl; echoed = refl; ppp = refl; replies = refl })
+
+  pub turns-rested : t .outcome ≡ Done → restsOf (t .ppp) ≡ true → Turns (turnOf p pkt) (t .outcome) (t .echoed) (t .ppp) (t .replies)
+  turns-rested eo e =
+      let s = rests-still (receivedOf p pkt .ppp) (sym (ap (λ (x : Turned). restsOf (x .ppp)) et) ∙ e) in
+      let o = sym (ap (λ (x : Turned). x .outcome) et) ∙ eo in
+      rw (turn-done p pkt o, et, s, append-nil) (record { outcome = o; echoed = refl; ppp = refl; replies = refl })
 
   pub turns-done : {s : Stepped} {rs : Replies} → t .outcome ≡ Done → s ≡ steppedAs (phaseOf (t .ppp)) → rs ≡ joined (t .replies) (s .replies)
       → Turns (turnOf p pkt) Done (t .echoed) (s .ppp) rs

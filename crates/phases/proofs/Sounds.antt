@@ -28,12 +28,13 @@ use Rattle.options.specs.Refusal.{isDone}
 use Rattle.options.specs.Wire.{protocolIn}
 use Rattle.options.specs.Wire.{lengthField}
 use Rattle.negotiation.specs.Automaton.{afterAcked, afterNotAcked, afterReq, afterAck, afterNack, afterTerm, isClosed, isOpened, Turn, requested, termAckOf, ackOf, reqOf, nackOf, ignoredTurn, echoOf, actOf, handleOf, rejectTurn, openedFsm}
-use Rattle.negotiation.specs.Pap.{fitsCredentials, isPapSent, isPapOpened, withPapState, PapTurn, papRequested, papActOf, papHandleOf, openedPap}
-use Rattle.phases.specs.Phases.{freshWith, withPhase, withOpening, withLcp, withPap, withIpv4cp, lcpIn, ipv4cpIn, PppTurn, rejectOf, receivedOf, Step, stepTo, opensLcp, opensIpv4cp, opensPap, closesIpv4cp, closesPap, byAuth, establishOf, authOf, networkOf, settled, phaseOf, pollOf, turnOf, isDead, pppTurned, openOf, newOf}
+use Rattle.negotiation.specs.Pap.{fitsCredentials, isPapSent, isPapOpened, PapTurn, papRequested, papActOf, papHandleOf, openedPap}
+use Rattle.phases.specs.Phases.{freshWith, withPhase, withOpening, withLcp, lcpIn, ipv4cpIn, PppTurn, rejectOf, receivedOf, Step, stepTo, opensLcp, opensIpv4cp, opensPap, closesIpv4cp, closesPap, byAuth, establishOf, authOf, networkOf, settled, phaseOf, isPapClosed, restsOf, pollOf, turnOf, isDead, pppTurned, openOf, newOf}
 use Rattle.phases.specs.Moves.{Calm}
 use Rattle.phases.specs.Sound.{isEstablish, Sound}
 use Rattle.negotiation.proofs.Proper.{proper-handle}
 use Rattle.negotiation.proofs.StateTable.{answer, is-closed, req-goes, ack-goes, nack-goes}
+use Rattle.phases.proofs.Resting.{rests-still}
 
 -- ---- by a test
 
@@ -300,25 +301,15 @@ module _ (p q : Ppp) (h : Heard p q) where
 
 -- ---- where a phase step does nothing
 
-closes-ipv4cp : (p : Ppp) → p .ipv4cp .state ≡ Closed → closesIpv4cp p ≡ p
-closes-ipv4cp p e i = withIpv4cp p (record { id = p .ipv4cp .id; state = sym e i; proto = p .ipv4cp .proto })
-
-closes-pap : (p : Ppp) → p .pap .state ≡ papState.Closed → closesPap p ≡ p
-closes-pap p e i = withPap p (withPapState (p .pap) (sym e i))
-
 step-none : (f : Phase) (p : Ppp) → Sound (withPhase p f) → p .opening ≡ false → phaseOf (withPhase p f) ≡ stepTo (withPhase p f) []
-unfolding phaseOf establishOf authOf networkOf
+unfolding phaseOf restsOf
 step-none Dead p s o = cond-all (λ (r : Ppp). stepTo r [] ≡ stepTo (withPhase p Dead) []) (isClosed (p .lcp .state) && not (p .opening)) refl refl
 step-none Establish p s o =
     let e = s .establish refl o in
-    let r = withPhase p Establish in
-    let c = s .closed ∙ o in
-    rw (c, e .0, c) (ap (λ (r : Ppp). stepTo r []) (closes-ipv4cp (closesPap r) (e .1) ∙ closes-pap r (e .2)))
-step-none Auth p s o =
-    let e = s .auth refl in
-    rw (ap isPapOpened (e .0), s .closed ∙ o) (ap (λ (r : Ppp). stepTo r []) (closes-ipv4cp (withPhase p Auth) (e .1)))
-step-none Network p s o = rw (s .network refl .1, s .closed ∙ o) refl
-step-none Open p s o = rw (s .closed ∙ o) refl
+    rests-still (withPhase p Establish) (rw (s .closed ∙ o, e .0, ap isPapClosed (e .2), ap isClosed (e .1)) refl)
+step-none Auth p s o = let e = s .auth refl in rests-still (withPhase p Auth) (rw (ap isPapOpened (e .0), ap isClosed (e .1), s .closed ∙ o) refl)
+step-none Network p s o = rests-still (withPhase p Network) (rw (s .network refl .1, s .closed ∙ o) refl)
+step-none Open p s o = rests-still (withPhase p Open) (rw (s .closed ∙ o) refl)
 
 pub calm : {p : Ppp} → Sound p → p .opening ≡ false → Calm p
 calm {p} s o = ap (λ (t : Step). pppTurned (t .ppp) (t .sent)) (step-none (p .phase) p s o)

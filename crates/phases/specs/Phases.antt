@@ -25,10 +25,12 @@ use Rattle.options.specs.declared.lcp.AuthType.the-variants.{None, Pap}
 use Rattle.options.specs.declared.ipv4cp.Ipv4cp.{Ipv4cp}
 use Rattle.options.specs.declared.ipv4cp.Shown.{Shown}
 use Rattle.options.specs.declared.ipv4cp.Shown.the-variants.{Absent}
+use Rattle.negotiation.specs.declared.states.State.{State}
 use Rattle.negotiation.specs.declared.states.State.the-variants.{Closed}
 use Rattle.negotiation.specs.declared.option_fsm.OptionFsm.{OptionFsm}
 use Rattle.negotiation.specs.declared.option_fsm.Handled.{Handled}
 use Rattle.negotiation.specs.declared.pap.Pap as pap
+use Rattle.negotiation.specs.declared.pap.PapState.{PapState}
 use Rattle.negotiation.specs.declared.pap.PapState.the-variants as papState
 use Rattle.phases.specs.declared.ppp.Phase.{Phase}
 use Rattle.phases.specs.declared.ppp.Phase.the-variants.{Dead, Establish, Auth, Network, Open}
@@ -189,6 +191,23 @@ settled p = cond (isClosed (p .lcp .state) && not (p .opening)) (withPhase p Dea
 
 unfoldable pub phaseOf : Ppp → Step
 phaseOf p = stepTo (settled (byPhase (p .phase) p .ppp)) (byPhase (p .phase) p .sent)
+
+abbrev pub isPapClosed : PapState → Bool
+isPapClosed papState.Closed = true
+isPapClosed papState.ReqSent = false
+isPapClosed papState.Opened = false
+
+-- by the states of LCP, PAP and IPv4CP
+abbrev pub restsIn : Phase → State → PapState → State → Bool
+restsIn Dead l a i = true
+restsIn Establish l a i = not (isClosed l) && not (isOpened l) && isPapClosed a && isClosed i
+restsIn Auth l a i = not (isPapOpened a) && isClosed i
+restsIn Network l a i = not (isOpened i)
+restsIn Open l a i = true
+
+-- a step finds nothing to open or close, and the link does not die
+unfoldable pub restsOf : Ppp → Bool
+restsOf p = restsIn (p .phase) (p .lcp .state) (p .pap .state) (p .ipv4cp .state) && not (isClosed (p .lcp .state) && not (p .opening))
 
 -- ---- the calls
 

@@ -1,7 +1,9 @@
 // One phase step: what it opens and closes, and at most one packet.
 ghost use mathlib.Core.Path.{_≡_};
+ghost use mathlib.Core.Bool.{not, _&&_};
 ghost use mathlib.Core.List.{[]};
-ghost use Rattle.phases.specs.Phases.{stepTo, opensLcp, opensIpv4cp, opensPap, closesIpv4cp, closesPap, establishOf, authOf, networkOf, byPhase, settled, phaseOf, steppedAs};
+ghost use Rattle.negotiation.specs.Automaton.{isClosed};
+ghost use Rattle.phases.specs.Phases.{stepTo, opensLcp, opensIpv4cp, opensPap, closesIpv4cp, closesPap, establishOf, authOf, networkOf, byPhase, settled, phaseOf, steppedAs, isPapClosed, restsIn, restsOf};
 use crate::ppp::Ipv4cpFsm;
 use crate::ppp::Phase;
 use crate::ppp::Ppp;
@@ -9,6 +11,7 @@ use crate::slots::ipv4cp_in;
 use crate::slots::ipv4cp_out;
 use crate::slots::lcp_in;
 use crate::slots::lcp_out;
+use negotiation::pap::PapState;
 use negotiation::pap::is_pap_opened;
 use negotiation::replies::Replies;
 use negotiation::states::State;
@@ -20,6 +23,40 @@ use options::lcp::AuthType;
 pub struct Stepped {
     pub ppp: Ppp,
     pub replies: Replies,
+}
+
+fn is_pap_closed(s: PapState) -> bool
+    ensures { λ r. ⌜ r ≡ isPapClosed s ⌝ }
+{
+    match s {
+        PapState::Closed => true,
+        PapState::ReqSent => false,
+        PapState::Opened => false,
+    }
+}
+
+fn establish_rests(l: State, a: PapState, i: State) -> bool
+    ensures { λ r. ⌜ r ≡ restsIn Phase.Establish l a i ⌝ }
+{
+    if is_closed(l) {
+        return false;
+    }
+    if is_opened(l) {
+        return false;
+    }
+    is_pap_closed(a) && is_closed(i)
+}
+
+fn rests_in(f: Phase, l: State, a: PapState, i: State) -> bool
+    ensures { λ r. ⌜ r ≡ restsIn f l a i ⌝ }
+{
+    match f {
+        Phase::Dead => true,
+        Phase::Establish => establish_rests(l, a, i),
+        Phase::Auth => !is_pap_opened(a) && is_closed(i),
+        Phase::Network => !is_opened(i),
+        Phase::Open => true,
+    }
 }
 
 impl Ppp {
@@ -150,19 +187,22 @@ impl Ppp {
         }
     }
 
+    fn dies(self) -> bool
+        ensures { λ r. ⌜ r ≡ isClosed (self .lcp .state) && not (self .opening) ⌝ }
+    {
+        let a = self.lcp;
+        let s = a.state;
+        is_closed(s) && !self.opening
+    }
+
     // Where LCP is Closed and is not being opened, the link is dead.
     fn settle(self) -> Self
         ensures { λ r. ⌜ r ≡ settled self ⌝ }
     {
-        let a = self.lcp;
-        let s = a.state;
-        if !is_closed(s) {
-            return self;
+        if self.dies() {
+            return self.with_phase(Phase::Dead);
         }
-        if self.opening {
-            return self;
-        }
-        self.with_phase(Phase::Dead)
+        self
     }
 
     pub(crate) fn step_phase(self) -> Stepped
@@ -175,5 +215,19 @@ impl Ppp {
             ppp: p.settle(),
             replies: r,
         }
+    }
+
+    // Whether a phase step would change nothing and send nothing.
+    pub fn rests(self) -> bool
+        ensures { λ r. ⌜ r ≡ restsOf self ⌝ }
+    {
+        let f = self.phase;
+        let a = self.lcp;
+        let b = self.pap;
+        let c = self.ipv4cp;
+        let l = a.state;
+        let s = b.state;
+        let i = c.state;
+        rests_in(f, l, s, i) && !self.dies()
     }
 }

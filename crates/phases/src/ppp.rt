@@ -300,6 +300,9 @@ impl Ppp {
             return self.refuse(why);
         }
         let p = t.ppp;
+        if p.rests() {
+            return t;
+        }
         let r = t.replies;
         let s = p.step_phase();
         let q = s.ppp;

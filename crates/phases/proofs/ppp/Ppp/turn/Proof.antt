@@ -1,5 +1,6 @@
+use mathlib.Core.Path.{sym, _∙_}
 use borrow.Author.Needs.{needs}
-use Rattle.phases.proofs.Phasing.{turns-refused, turns-done}
+use Rattle.phases.proofs.Phasing.{turns-refused, turns-rested, turns-done}
 use Rattle.phases.proofs.ppp.Ppp.turn.Statement.{statement}
 use Rattle.phases.proofs.ppp.Ppp.turn.Tie as tie
 
@@ -20,15 +21,24 @@ returns c =
 enum-told : tie.Need-enum-told
 enum-told c = search needs
 
+rests-requires : tie.Need-rests-requires
+rests-requires c κs = search needs
+
+returns-2 : tie.Need-returns-2
+returns-2 c =
+    let e = c .before .before .before in
+    let a = e .before .before .before .before .args in
+    turns-rested (a .self) (a .pkt .now) (e .before .before .received .ensures) (e .enum-told .given .1) (sym (c .before .rests .ensures) ∙ c .if1 .taken)
+
 step-phase-requires : tie.Need-step-phase-requires
 step-phase-requires c κs = search needs
 
 join-requires : tie.Need-join-requires
 join-requires c κs = search needs
 
-returns-2 : tie.Need-returns-2
-returns-2 c =
-    let e = c .before .before .before .before .before .before in
+returns-3 : tie.Need-returns-3
+returns-3 c =
+    let e = c .before .before .before .before .before .before .before .before in
     let a = e .before .before .before .before .args in
     turns-done (a .self) (a .pkt .now) (e .before .before .received .ensures) (e .enum-told .given .1) (c .before .before .before .step-phase .ensures) (c .join .ensures)
 
@@ -41,6 +51,8 @@ turn-spec =
     refuse-requires
     returns
     enum-told
+    rests-requires
+    returns-2
     step-phase-requires
     join-requires
-    returns-2)
+    returns-3)
