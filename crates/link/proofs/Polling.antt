@@ -20,17 +20,18 @@ use Rattle.framing.specs.declared.frame_reader.Got.{Got}
 use Rattle.framing.specs.declared.frame_reader.Got.the-variants.{Packet, Refused, Nothing}
 use Rattle.framing.proofs.OneAnswer.{gots-differ}
 use Rattle.options.specs.Wire.{protocolIn}
-use Rattle.phases.specs.Phases.{PppTurn, pollOf, turnOf, turnedAs, Turns}
+use Rattle.phases.specs.Phases.{PppTurn, restsOf, pollOf, turnOf, turnedAs, Turns}
 use Rattle.options.specs.declared.refusal.Refusal as negotiation
 use Rattle.options.specs.declared.refusal.Outcome as negotiated
 use Rattle.negotiation.specs.declared.replies.Replies.{Replies}
 use Rattle.phases.specs.declared.ppp.Ppp.{Ppp}
 use Rattle.phases.specs.declared.ppp.Turned.{Turned}
 use Rattle.negotiation.proofs.Sends as sending
+use Rattle.phases.proofs.Resting.{rests-still}
 use Rattle.link.specs.declared.refusal.Refusal.the-variants.{Framing, Negotiation, FramesFull}
 use Rattle.link.specs.declared.pppos.PPPoS.{PPPoS}
 use Rattle.link.specs.declared.pppos.PPPoSAction.{PPPoSAction}
-use Rattle.link.specs.declared.pppos.PPPoSAction.the-variants.{Received, Declined}
+use Rattle.link.specs.declared.pppos.PPPoSAction.the-variants.{Idle, Received, Declined}
 use Rattle.link.specs.Frames.{frames, replies, Short}
 use Rattle.link.specs.Link.{linkOf, heldBy, Poll, declined, sent, echoedIn, byOutcome, answered, writtenAs, repliedBy, replied, isIp, packetPoll, pollLink, Polls}
 use Rattle.link.proofs.Sending.{replies-frames, replies-short, turn-narrow, poll-narrow}
@@ -53,18 +54,15 @@ polls-of e =
 -- ---- a turn as the code holds it
 
 module _ (l : PPPoS) (r : FrameReader) (t : Turned) (tx rx : List ℕ) where
-  pub written-none : {a : PPPoSAction} {k : PPPoS} → length tx < length (replies (t .replies)) → a ≡ Declined FramesFull → k ≡ l
+  pub written-none : {a : PPPoSAction} {k : PPPoS} → leb (length (replies (t .replies))) (length tx) ≡ false → a ≡ Declined FramesFull → k ≡ l
       → polled a k tx rx ≡ writtenAs l r t tx rx
   unfolding writtenAs
-  written-none h ea ek = rw (lt-leb (length (replies (t .replies))) (length tx) h) (polled-as ea ek refl refl)
+  written-none h ea ek = rw h (polled-as ea ek refl refl)
 
-  pub written-all : {a : PPPoSAction} {n : ℕ} {tx′ rx′ : List ℕ} → n ≡ length (replies (t .replies)) → n ≤ length tx → a ≡ sent n
+  pub written-all : {a : PPPoSAction} {n : ℕ} {tx′ rx′ : List ℕ} → leb (length (replies (t .replies))) (length tx) ≡ true → n ≡ length (replies (t .replies)) → a ≡ sent n
       → tx′ ≡ sets tx 0 (replies (t .replies)) → rx′ ≡ echoedIn (t .echoed) rx → polled a (linkOf r (t .ppp)) tx′ rx′ ≡ writtenAs l r t tx rx
   unfolding writtenAs
-  written-all e h ea et er =
-      let k : length (replies (t .replies)) ≤ length tx = omega arith in
-      rw (le-leb (length (replies (t .replies))) (length tx) k)
-      (polled-as (ea ∙ ap sent e) refl (et ∙ sets-front (replies (t .replies)) tx k) er)
+  written-all h e ea et er = rw h (polled-as (ea ∙ ap sent e) refl (et ∙ sets-front (replies (t .replies)) tx (leb-true (length (replies (t .replies))) (length tx) h)) er)
 
   pub replied-refused : {a : PPPoSAction} {k : PPPoS} {why : negotiation.Refusal} → t .outcome ≡ negotiated.the-variants.Refused why
       → a ≡ Declined (Negotiation why) → k ≡ linkOf r (l .ppp) → polled a k tx rx ≡ replied l r t tx rx
@@ -90,6 +88,11 @@ module _ (l : PPPoS) (r : FrameReader) (turn : PppTurn) (tx rx : List ℕ) (few 
   pub replied-answered : (t : Turned) → Turns turn (t .outcome) (t .echoed) (t .ppp) (t .replies) → replied l r t tx rx ≡ answered l r turn tx rx
   unfolding replied answered
   replied-answered t h = ap (λ (x : Turned). repliedBy (x .outcome) l r x tx rx) (turned-as h) ∙ replied-by (turn .outcome)
+
+-- where the phase step would do nothing, there is nothing to write
+pub answered-rested : (l : PPPoS) (tx rx : List ℕ) → restsOf (l .ppp) ≡ true → polled Idle l tx rx ≡ answered l (l .«frame_reader») (pollOf (l .ppp)) tx rx
+unfolding answered frames
+answered-rested l tx rx e = rw (rests-still (l .ppp) e, le-leb 0 (length tx) (omega arith)) refl
 
 pub turns-short : {turn : PppTurn} {o : negotiated.Outcome} {e : Bool} {p : Ppp} {rs : Replies} {n : ℕ}
     → Turns turn o e p rs → sending.Sends n (turn .sent) → Short rs

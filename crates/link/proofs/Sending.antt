@@ -1,14 +1,15 @@
 -- Frames one behind the other: what `encode` leaves in the rest of a buffer, and how long a call's frames are.
 -- Assumes nothing.
 use mathlib.Core.Path.{_≡_, refl, ap, _∙_}
-use mathlib.Core.Bool.{true}
+use mathlib.Core.Bool.{Bool, true, false}
 use mathlib.Core.List.{List, [], _∷_, _++_, append-assoc, append-nil}
 use Prim.Native.Nat.{ℕ, _+_, _*_, _-_, _^_, _≤_}
 use native.Mathlib.Omega.{arith}
 use native.Mathlib.Nat.{zero-add}
 use borrow.Author.Tests.{lt-ltb, le-leb}
 use borrow.Rule.Slice.PartMut.{putMid, midOf}
-use lib.ListN.{length, take, drop, length-append, length-drop}
+use lib.Dec.{ltb}
+use lib.ListN.{length, take, drop, length-append, length-take, length-drop}
 use lib.Seq.{sets, sets-eq, take-all, drop-drop, drop-length}
 use Rattle.laws.specs.Each.{Each}
 use Rattle.laws.proofs.Stores.{sets-append}
@@ -16,14 +17,16 @@ use Rattle.framing.specs.Rfc1662.{frame}
 use Rattle.framing.specs.Writer.{holds, Encodes, capped}
 use Rattle.framing.specs.declared.refusal.Outcome.{Outcome}
 use Rattle.framing.proofs.Unstuffing.{frame-narrow}
-use Rattle.options.specs.Wire.{pktOf}
+use Rattle.options.specs.Wire.{pktOf, contentOf}
 use Rattle.negotiation.specs.Replies.{repliesOf}
+use Rattle.options.specs.declared.wire.Packet.{Packet}
+use Rattle.negotiation.specs.declared.replies.Replies.{Replies}
 use Rattle.phases.specs.Phases.{pollOf, turnOf}
 use Rattle.phases.specs.declared.ppp.Ppp.{Ppp}
 use Rattle.options.proofs.Wires.{content-pkt, len-pkt}
 use Rattle.options.proofs.Fair as packet
 use Rattle.phases.proofs.Phasing.{poll-sends, turn-sends}
-use Rattle.link.specs.Frames.{everyByte, frames, reply, replies, Short}
+use Rattle.link.specs.Frames.{everyByte, frames, reply, packetAt, replies, Short}
 
 -- ---- a frame in the rest of a buffer
 
@@ -91,6 +94,17 @@ pub poll-narrow : (p : Ppp) → length (frames (pollOf p .sent)) ≤ 795
 poll-narrow p = let s = poll-sends p in omega (arith, frames-narrow (pollOf p .sent) (s .short))
 
 -- ---- replies as the code holds them
+
+pub reply-narrow : (on : Bool) (p : Packet) → p .len ≤ 128 → length (reply on p) ≤ 265
+unfolding reply
+reply-narrow true p h = frame-short (contentOf p) (rw length-take (omega arith))
+reply-narrow false p h = omega arith
+
+pub replies-narrow : {rs : Replies} → Short rs → length (replies rs) ≤ 795
+unfolding replies
+replies-narrow {rs} s =
+    rw (length-append, length-append)
+    (omega (arith, reply-narrow (ltb 0 (rs .count)) (packetAt rs 0) (s .first), reply-narrow (ltb 1 (rs .count)) (packetAt rs 1) (s .second), reply-narrow (ltb 2 (rs .count)) (packetAt rs 2) (s .third)))
 
 -- the frames of a record of replies are those of the packets it was made of
 pub replies-frames : (ps : List (List ℕ)) → length ps ≤ 3 → replies (repliesOf ps) ≡ frames ps

@@ -1,6 +1,7 @@
 // Frames one behind the other in the transmit buffer.
 ghost use mathlib.Core.Path.{_≡_};
 ghost use Prim.Native.Nat.{_+_, _≤_};
+ghost use lib.Dec.{leb};
 ghost use lib.ListN.{length};
 ghost use lib.Seq.{sets};
 ghost use Rattle.framing.specs.Rfc1662.{frame};
@@ -11,6 +12,9 @@ use negotiation::replies::Replies;
 use options::wire::Packet;
 
 const EVERY_BYTE: u32 = 0xFFFF_FFFF;
+
+// Three frames of at most 265 bytes.
+const ALWAYS_ENOUGH: usize = 795;
 
 // The frame of `src` behind the first `at` bytes of `tx`, which has the room: the rest of the buffer is lent on.
 fn put_frame(tx: &mut [u8], at: usize, src: &[u8]) -> usize
@@ -48,9 +52,9 @@ fn put_reply(tx: &mut [u8], at: usize, on: bool, p: Packet) -> usize
 }
 
 // How many bytes the frames of all replies take.
-pub(crate) fn replies_len(rs: Replies) -> usize
+fn replies_len(rs: Replies) -> usize
     requires { ⌜ Short rs ⌝ }
-    ensures { λ r. ⌜ (r ≡ length (replies rs)) × (r ≤ 795) ⌝ }
+    ensures { λ r. ⌜ r ≡ length (replies rs) ⌝ }
 {
     let n = rs.count;
     let ps = rs.packets;
@@ -58,6 +62,17 @@ pub(crate) fn replies_len(rs: Replies) -> usize
     let b = ps[1];
     let c = ps[2];
     reply_len(0 < n, a) + reply_len(1 < n, b) + reply_len(2 < n, c)
+}
+
+// Whether the frames of all replies take at most `room` bytes. Where it is always enough their lengths are not computed.
+pub(crate) fn fits(room: usize, rs: Replies) -> bool
+    requires { ⌜ Short rs ⌝ }
+    ensures { λ r. ⌜ r ≡ leb (length (replies rs)) room ⌝ }
+{
+    if ALWAYS_ENOUGH <= room {
+        return true;
+    }
+    replies_len(rs) <= room
 }
 
 // The frames of all replies from the front of `tx`, which has the room.

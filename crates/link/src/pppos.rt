@@ -6,8 +6,8 @@ ghost use Rattle.framing.specs.Reader.{freshReader};
 ghost use Rattle.phases.specs.Phases.{openOf, newOf, statusOf};
 ghost use Rattle.link.specs.Frames.{Short};
 ghost use Rattle.link.specs.Link.{linkOf, outcomeOf, framingOutcome, Changes, Consumes, declined, echoedIn, asPoll, writtenAs, replied, isIp, packetPoll, pollLink, Polls, Sends, partOf};
+use crate::frames::fits;
 use crate::frames::put_replies;
-use crate::frames::replies_len;
 use crate::refusal::Outcome;
 use crate::refusal::Refusal;
 use framing::encode::encode_parts;
@@ -178,11 +178,10 @@ impl PPPoS {
         ensures { λ p. ⌜ asPoll p (now (tx .exit)) (now (rx .exit)) ≡ writtenAs self r t (now (tx .entry)) (now (rx .entry)) ⌝ }
     {
         let rs = t.replies;
-        let n = replies_len(rs);
-        if tx.len() < n {
+        if !fits(tx.len(), rs) {
             return self.decline(Refusal::FramesFull);
         }
-        put_replies(tx, rs);
+        let n = put_replies(tx, rs);
         store_echo(t.echoed, rx);
         let ppp = t.ppp;
         let link = PPPoS {
@@ -243,6 +242,13 @@ impl PPPoS {
         match g {
             Got::Nothing => {
                 let p = self.ppp;
+                // A phase step that would do nothing is not taken.
+                if p.rests() {
+                    return Polled {
+                        action: PPPoSAction::Idle,
+                        link: self,
+                    };
+                }
                 self.answer(r, p.poll(), tx, rx)
             }
             Got::Refused(why) => self.with_reader(next).decline(Refusal::Framing(why)),

@@ -31,11 +31,7 @@ add-result-2 c = search needs
 
 returns : tie.Need-returns
 unfolding replies
-returns c =
-    let x = c .before .before .reply-len .ensures in
-    let y = c .before .reply-len2 .ensures in
-    let z = c .reply-len3 .ensures in
-    (rw (length-append, length-append) (omega (arith, x, y, z)), omega (arith, x, y, z))
+returns c = rw (length-append, length-append) (omega (arith, c .before .before .reply-len .ensures, c .before .reply-len2 .ensures, c .reply-len3 .ensures))
 
 pub replies-len-spec : {M : Type 1} → statement M
 replies-len-spec =

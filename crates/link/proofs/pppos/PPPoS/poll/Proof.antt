@@ -1,6 +1,6 @@
 use mathlib.Core.Path.{sym, ap₂, _∙_}
 use native.Mathlib.Omega.{arith}
-use Rattle.link.proofs.Polling.{polled, polls-of, replied-answered, turns-short, got-packet, poll-short, poll-nothing, poll-refused, poll-packet}
+use Rattle.link.proofs.Polling.{polled, polls-of, answered-rested, replied-answered, turns-short, got-packet, poll-short, poll-nothing, poll-refused, poll-packet}
 use Rattle.phases.specs.Phases.{pollOf}
 use Rattle.phases.proofs.Phasing.{poll-sends}
 use Rattle.link.specs.declared.pppos.PPPoS.{PPPoS}
@@ -25,13 +25,21 @@ receive-requires c κs = search needs
 enum-told : tie.Need-enum-told
 enum-told c = search needs
 
+rests-requires : tie.Need-rests-requires
+rests-requires c κs = search needs
+
+returns-2 : tie.Need-returns-2
+returns-2 c =
+    let a = c .before .before .before .before .before .before .before .before .before .before .before .args in
+    let g = c .before .before .before in
+    polls-of (answered-rested (a .self) (a .tx .now) (a .rx .now) (sym (c .before .rests .ensures) ∙ c .if2 .taken)
+    ∙ sym (poll-nothing (a .self) (a .tx .now) (a .rx .now) (omega arith) (g .before .before .before .receive .ensures) (g .enum-told .given .1)))
+
 poll-requires : tie.Need-poll-requires
 poll-requires c κs = search needs
 
 answer-requires : tie.Need-answer-requires
-answer-requires c κs =
-    let a = c .before .before .before .before .before .before .before .before .before .before .before .before .args in
-    turns-short (c .before .before .poll .ensures) (poll-sends (a .self .ppp))
+answer-requires c κs = turns-short (c .before .before .poll .ensures) (poll-sends (c .before .before .before .before .before .before .before .before .before .before .before .before .before .before .args .self .ppp))
 
 enum-known-g : tie.Need-enum-known-g
 enum-known-g c = search needs
@@ -56,20 +64,19 @@ same-length c = search needs
 same-length-2 : tie.Need-same-length-2
 same-length-2 c = search needs
 
-returns-2 : tie.Need-returns-2
-returns-2 c =
-    let a = c .before .before .before .before .before .before .before .before .before .before .before .before .before .before .before .before .before .args in
-    let t = c .before .before .before .before .before .before .before .poll in
-    let r = a .self .«frame_reader» in
-    let s = poll-sends (a .self .ppp) in
-    let g = c .before .before .before .before .before .before .before .before .before in
-    let i = g .before .before .before in
-    polls-of (c .before .before .before .before .answer .ensures
-    ∙ replied-answered (a .self) r (pollOf (a .self .ppp)) (a .tx .now) (a .rx .now) (omega arith) (t .result) (t .ensures)
-    ∙ sym (poll-nothing (a .self) (a .tx .now) (a .rx .now) (omega (arith, i .before .if1 .left)) (i .receive .ensures) (g .enum-told .given .1)))
-
 returns-3 : tie.Need-returns-3
 returns-3 c =
+    let a = c .before .before .before .before .before .before .before .before .before .before .before .before .before .before .before .before .before .before .before .args in
+    let t = c .before .before .before .before .before .before .before .poll in
+    let s = poll-sends (a .self .ppp) in
+    let g = c .before .before .before .before .before .before .before .before .before .before .before in
+    let i = g .before .before .before in
+    polls-of (c .before .before .before .before .answer .ensures
+    ∙ replied-answered (a .self) (a .self .«frame_reader») (pollOf (a .self .ppp)) (a .tx .now) (a .rx .now) (omega arith) (t .result) (t .ensures)
+    ∙ sym (poll-nothing (a .self) (a .tx .now) (a .rx .now) (omega (arith, i .before .if1 .left)) (i .receive .ensures) (g .enum-told .given .1)))
+
+returns-4 : tie.Need-returns-4
+returns-4 c =
     let a = c .before .before .before .before .before .before .before .before .before .before .before .args in
     let e = c .decline2 .ensures in
     let g = c .before .before .before in
@@ -82,8 +89,8 @@ same-length-3 c = search needs
 same-length-4 : tie.Need-same-length-4
 same-length-4 c = search needs
 
-returns-4 : tie.Need-returns-4
-returns-4 c =
+returns-5 : tie.Need-returns-5
+returns-5 c =
     let a = c .before .before .before .before .before .before .before .before .before .before .before .before .before .before .before .before .args in
     let g = c .before .before .before .before .before .before .before .before in
     polls-of (c .before .before .before .before .poll-packet .ensures
@@ -97,6 +104,8 @@ poll-spec =
     returns
     receive-requires
     enum-told
+    rests-requires
+    returns-2
     poll-requires
     answer-requires
     enum-known-g
@@ -106,8 +115,8 @@ poll-spec =
     poll-packet-requires
     same-length
     same-length-2
-    returns-2
     returns-3
+    returns-4
     same-length-3
     same-length-4
-    returns-4)
+    returns-5)
