@@ -1,63 +1,117 @@
-// Carries calls out.
+// Carries calls out, but for those of the link.
 use crate::call::Call;
-use crate::pppos;
+use crate::call::QUIET;
+use crate::call::call_of;
+use crate::call::none;
+use crate::line::Input;
+use crate::line::more;
 use crate::reader;
+use crate::show::ended;
+use crate::show::ok;
+use crate::show::say;
 use crate::show::text;
-use crate::show::word;
-use crate::world::Answered;
 use crate::world::World;
 use crate::world::fill;
 use crate::world::fresh;
-use crate::world::front;
-use crate::world::said;
+use crate::world::given;
+use crate::world::lent;
 use crate::writer;
 use framing::crc::crc16;
 
-fn check_value(world: World, seed: u16, src: &[u8], out: &mut [u8]) -> Answered {
-    let at = text(out, 0, b"crc ");
-    let at = word(out, at, crc16(seed, src));
-    let len = text(out, at, b"\n");
-    Answered { world, len }
+fn checked(c: Call, line: &[u8], out: &mut [u8]) {
+    let seed = (c.a % 0x1_0000) as u16;
+    let crc = crc16(seed, given(line, c.b_at, c.b));
+    let at = say(out, c.at, b"&", &[crc as usize]);
+    ended(out, at);
+}
+
+fn bad(out: &mut [u8]) {
+    let at = text(out, 0, b"bad");
+    ended(out, at);
 }
 
 // All as at the start.
-fn reset(tx: &mut [u8], rx: &mut [u8], out: &mut [u8]) -> Answered {
-    let w = fresh();
-    fill(tx, w.tx_fill);
-    fill(rx, w.rx_fill);
-    said(w, out, b"reset ok\n")
+fn reset(w: World, tx: &mut [u8], rx: &mut [u8]) -> World {
+    let i = w.input;
+    let c = w.call;
+    fill(tx, 4096, 0xEE);
+    fill(rx, 4096, 0x00);
+    fresh(i, c)
 }
 
-fn fill_rx(w: World, b: u8, rx: &mut [u8], out: &mut [u8]) -> Answered {
-    fill(rx, b);
-    said(w.with_fills(b, w.tx_fill), out, b"fill ok\n")
+fn filled(mut w: World, c: Call, tx: &mut [u8], rx: &mut [u8]) -> World {
+    let b = (c.b % 256) as u8;
+    if c.a == 0 {
+        w.rx_fill = b;
+        fill(rx, 4096, b);
+    } else {
+        w.tx_fill = b;
+        fill(tx, 4096, b);
+    }
+    w
 }
 
-fn fill_tx(w: World, b: u8, tx: &mut [u8], out: &mut [u8]) -> Answered {
-    fill(tx, b);
-    said(w.with_fills(w.rx_fill, b), out, b"fill ok\n")
+fn buffers(w: World, c: Call, tx: &mut [u8], rx: &mut [u8], out: &mut [u8]) -> World {
+    ok(out, c.at);
+    if c.number == 0 {
+        return reset(w, tx, rx);
+    }
+    filled(w, c, tx, rx)
 }
 
-// The call's answer goes to the front of `out`; `src` holds the bytes of the call.
-pub(crate) fn answer(
+// By the numbers of `call::named`.
+fn plain(w: World, line: &[u8], tx: &mut [u8], rx: &mut [u8], out: &mut [u8]) -> World {
+    let c = w.call;
+    let k = c.number;
+    match k {
+        0..=1 => buffers(w, c, tx, rx, out),
+        2 => {
+            checked(c, line, out);
+            w
+        }
+        3..=6 => {
+            let half = lent(tx, 4096);
+            writer::run(w, line, &mut tx[half..], out)
+        }
+        7..=9 => {
+            let half = lent(rx, 4096);
+            reader::run(w, line, &mut rx[half..], out)
+        }
+        10..=18 => w,
+        _ => {
+            bad(out);
+            w
+        }
+    }
+}
+
+fn asked(line: &mut [u8], i: Input, out: &mut [u8]) -> Call {
+    if i.whole {
+        return call_of(line, i.len, out);
+    }
+    none(QUIET)
+}
+
+// Waits for bytes, and reads the line that they end.
+fn listened(mut w: World, chunk: &mut [u8], line: &mut [u8], out: &mut [u8]) -> World {
+    let i = w.input;
+    let i = more(chunk, line, i);
+    let c = asked(line, i, out);
+    w.input = i;
+    w.over = i.over;
+    w.call = c;
+    w
+}
+
+// The next line's answer, unless the link has to give it.
+pub(crate) fn heard(
     w: World,
-    call: Call,
-    src: &[u8],
-    wbuf: &mut [u8],
-    rbuf: &mut [u8],
+    chunk: &mut [u8],
+    line: &mut [u8],
     tx: &mut [u8],
     rx: &mut [u8],
     out: &mut [u8],
-) -> Answered {
-    match call {
-        Call::Quiet => said(w, out, b""),
-        Call::Bad => said(w, out, b"bad\n"),
-        Call::Reset => reset(tx, rx, out),
-        Call::FillRx(b) => fill_rx(w, b, rx, out),
-        Call::FillTx(b) => fill_tx(w, b, tx, out),
-        Call::Crc { seed, count } => check_value(w, seed, front(src, count), out),
-        Call::Writer(c) => writer::run(w, c, src, wbuf, out),
-        Call::Reader(c) => reader::run(w, c, src, rbuf, out),
-        Call::Link(c) => pppos::run(w, c, src, tx, rx, out),
-    }
+) -> World {
+    let w = listened(w, chunk, line, out);
+    plain(w, line, tx, rx, out)
 }

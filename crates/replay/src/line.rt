@@ -1,43 +1,23 @@
-// Lines: bytes are gathered up to a line feed, and the whole line is answered.
-use crate::answer::answer;
-use crate::call::Call;
-use crate::call::call_of;
-use crate::world::World;
-use crate::world::fresh;
+// Lines: bytes are gathered up to a line feed.
 use crate::world::lent;
 
-// `len` counts the characters of the line that has not ended yet; a count above the line's room says that it is too long.
-pub(crate) struct Session {
-    pub(crate) world: World,
+// The bytes from `from` up to `to` have arrived and are not used yet. `len` counts the characters of the line so far; a count
+// above the line's room says that it is too long. The end of the input ends a line as well.
+pub(crate) struct Input {
+    pub(crate) from: usize,
+    pub(crate) to: usize,
     pub(crate) len: usize,
+    pub(crate) whole: bool,
     pub(crate) over: bool,
 }
 
-pub(crate) fn opened() -> Session {
-    Session {
-        world: fresh(),
-        len: 0,
-        over: false,
-    }
-}
-
-impl Session {
-    fn ended(self) -> Self {
-        let world = self.world;
-        Session {
-            world,
-            len: self.len,
-            over: true,
-        }
-    }
-
-    fn at(self, len: usize) -> Self {
-        let world = self.world;
-        Session {
-            world,
-            len,
-            over: self.over,
-        }
+pub(crate) fn arrived_at(from: usize, to: usize, len: usize, whole: bool, over: bool) -> Input {
+    Input {
+        from,
+        to,
+        len,
+        whole,
+        over,
     }
 }
 
@@ -50,90 +30,45 @@ fn keep(line: &mut [u8], len: usize, b: u8) -> usize {
     line.len() + 1
 }
 
-fn whole(line: &[u8], len: usize, src: &mut [u8]) -> Call {
-    if line.len() < len {
-        return Call::Bad;
-    }
-    call_of(&line[0..len], src)
-}
-
-// Answers the line that has just ended.
-fn respond(
-    s: Session,
-    line: &[u8],
-    src: &mut [u8],
-    wbuf: &mut [u8],
-    rbuf: &mut [u8],
-    tx: &mut [u8],
-    rx: &mut [u8],
-    out: &mut [u8],
-) -> Session {
-    let call = whole(line, s.len, src);
-    let world = s.world;
-    let a = answer(world, call, src, wbuf, rbuf, tx, rx, out);
-    let n = lent(out, a.len);
-    io::write_all(libc::STDOUT_FILENO, &out[0..n]);
-    let world = a.world;
-    Session {
-        world,
-        len: 0,
-        over: s.over,
-    }
-}
-
-fn take(
-    s: Session,
-    b: u8,
-    line: &mut [u8],
-    src: &mut [u8],
-    wbuf: &mut [u8],
-    rbuf: &mut [u8],
-    tx: &mut [u8],
-    rx: &mut [u8],
-    out: &mut [u8],
-) -> Session {
-    if b == b'\n' {
-        return respond(s, line, src, wbuf, rbuf, tx, rx, out);
-    }
-    let len = keep(line, s.len, b);
-    s.at(len)
-}
-
-// Bytes as they arrive.
-pub(crate) fn feed(
-    s: Session,
-    chunk: &[u8],
-    line: &mut [u8],
-    src: &mut [u8],
-    wbuf: &mut [u8],
-    rbuf: &mut [u8],
-    tx: &mut [u8],
-    rx: &mut [u8],
-    out: &mut [u8],
-) -> Session {
-    let mut s = s;
-    let mut i = 0;
-    while i < chunk.len() {
+// Takes bytes up to a line feed, or all.
+fn gather(chunk: &[u8], from: usize, to: usize, line: &mut [u8], len: usize) -> Input {
+    let to = lent(chunk, to);
+    let mut i = from;
+    let mut len = len;
+    while i < to {
         let b = chunk[i];
         i += 1;
-        s = take(s, b, line, src, wbuf, rbuf, tx, rx, out);
+        if b == b'\n' {
+            return arrived_at(i, to, len, true, false);
+        }
+        len = keep(line, len, b);
     }
-    s
+    arrived_at(0, 0, len, false, false)
 }
 
-// The end of the input, where a line that no line feed ended is answered too.
-pub(crate) fn finish(
-    s: Session,
-    line: &mut [u8],
-    src: &mut [u8],
-    wbuf: &mut [u8],
-    rbuf: &mut [u8],
-    tx: &mut [u8],
-    rx: &mut [u8],
-    out: &mut [u8],
-) -> Session {
-    if s.len > 0 {
-        return respond(s, line, src, wbuf, rbuf, tx, rx, out).ended();
+// Nothing is the end of the input.
+fn arrived(chunk: &[u8], got: isize, line: &mut [u8], len: usize) -> Input {
+    let n = io::count(got, chunk);
+    if n == 0 {
+        return arrived_at(0, 0, len, true, true);
     }
-    s.ended()
+    gather(chunk, 0, n, line, len)
+}
+
+// The next bytes of the input, read once all before them are used.
+fn bytes(chunk: &mut [u8], line: &mut [u8], i: Input, len: usize) -> Input {
+    let from = i.from;
+    let to = i.to;
+    if from < to {
+        return gather(chunk, from, to, line, len);
+    }
+    let got = libc::read(libc::STDIN_FILENO, chunk);
+    arrived(chunk, got, line, len)
+}
+
+pub(crate) fn more(chunk: &mut [u8], line: &mut [u8], i: Input) -> Input {
+    if i.whole {
+        return bytes(chunk, line, i, 0);
+    }
+    bytes(chunk, line, i, i.len)
 }

@@ -10,63 +10,55 @@ mod word;
 mod world;
 mod writer;
 
-use crate::line::Session;
-use crate::line::feed;
-use crate::line::finish;
-use crate::line::opened;
+use crate::answer::heard;
+use crate::pppos::fresh;
+use crate::pppos::linked;
+use crate::world::World;
+use crate::world::started;
+use link::pppos::PPPoS;
 
-// Answers the lines that the bytes end, or at the end of the input the last line.
-fn heard(
-    s: Session,
-    got: isize,
-    chunk: &[u8],
-    line: &mut [u8],
-    src: &mut [u8],
-    wbuf: &mut [u8],
-    rbuf: &mut [u8],
-    tx: &mut [u8],
-    rx: &mut [u8],
-    out: &mut [u8],
-) -> Session {
-    if got <= 0 {
-        return finish(s, line, src, wbuf, rbuf, tx, rx, out);
-    }
-    let n = io::count(got, chunk);
-    feed(s, &chunk[..n], line, src, wbuf, rbuf, tx, rx, out)
+// A link's type is long, and a proof lists it at each step: it stands beside the rest, and goes to its own calls only.
+struct Session {
+    world: World,
+    link: PPPoS,
+    over: bool,
 }
 
-// Waits for bytes.
+fn opened() -> Session {
+    Session {
+        world: started(),
+        link: fresh(),
+        over: false,
+    }
+}
+
+// Waits for bytes, and answers the line that they end.
 fn turn(
     s: Session,
     chunk: &mut [u8],
     line: &mut [u8],
-    src: &mut [u8],
-    wbuf: &mut [u8],
-    rbuf: &mut [u8],
     tx: &mut [u8],
     rx: &mut [u8],
     out: &mut [u8],
 ) -> Session {
-    let got = libc::read(libc::STDIN_FILENO, chunk);
-    heard(s, got, chunk, line, src, wbuf, rbuf, tx, rx, out)
+    let world = s.world;
+    let link = s.link;
+    let world = heard(world, chunk, line, tx, rx, out);
+    let link = linked(link, world, line, tx, rx, out);
+    Session {
+        world,
+        link,
+        over: world.over,
+    }
 }
 
-// A proved loop has to end, and nothing says that the input does: the turns count down from a number that no run uses up.
-fn serve(
-    chunk: &mut [u8],
-    line: &mut [u8],
-    src: &mut [u8],
-    wbuf: &mut [u8],
-    rbuf: &mut [u8],
-    tx: &mut [u8],
-    rx: &mut [u8],
-    out: &mut [u8],
-) {
+// A proved loop has to end, and nothing says that the input does: no run uses so many turns up.
+fn serve(chunk: &mut [u8], line: &mut [u8], tx: &mut [u8], rx: &mut [u8], out: &mut [u8]) {
     let mut s = opened();
     let mut turns = u64::MAX;
     while turns > 0 {
         turns -= 1;
-        s = turn(s, chunk, line, src, wbuf, rbuf, tx, rx, out);
+        s = turn(s, chunk, line, tx, rx, out);
         if s.over {
             return;
         }
@@ -76,23 +68,10 @@ fn serve(
 fn main() {
     let mut chunk = [0u8; 4096];
     let mut line = [0u8; 8400];
-    // Half a line of digits is fewer bytes.
-    let mut src = [0u8; 4200];
-    let mut wbuf = [0u8; 4096];
-    let mut rbuf = [0u8; 4096];
-    // As `reset` leaves them.
-    let mut tx = [0xEEu8; 4096];
-    let mut rx = [0u8; 4096];
+    // The link's buffers as `reset` leaves them, and behind them those of the writer and the reader.
+    let mut tx = [0xEEu8; 8192];
+    let mut rx = [0u8; 8192];
     // Two whole buffers in digits, and the words before them.
     let mut out = [0u8; 16500];
-    serve(
-        &mut chunk,
-        &mut line,
-        &mut src,
-        &mut wbuf,
-        &mut rbuf,
-        &mut tx,
-        &mut rx,
-        &mut out,
-    );
+    serve(&mut chunk, &mut line, &mut tx, &mut rx, &mut out);
 }

@@ -1,153 +1,143 @@
 // The link's calls.
-use crate::call::LinkCall;
+use crate::call::Call;
 use crate::dump::dump;
 use crate::reader::reading;
+use crate::show::buffer;
 use crate::show::bytes;
-use crate::show::declined;
-use crate::show::done;
-use crate::show::end;
-use crate::show::field;
-use crate::show::number;
-use crate::show::one_line;
+use crate::show::ended;
+use crate::show::put;
+use crate::show::say;
 use crate::show::text;
-use crate::world::Answered;
+use crate::word::NONE;
 use crate::world::World;
 use crate::world::front;
+use crate::world::given;
 use crate::world::lent;
+use framing::frame_reader::Reading;
 use link::pppos::Changed;
 use link::pppos::Consumed;
 use link::pppos::PPPoS;
 use link::pppos::PPPoSAction;
-use link::pppos::Polled;
 use link::pppos::ip_packet;
 use link::refusal::Outcome;
+use link::refusal::Refusal;
 use report::status::lines;
 
-// What stands behind the name of a call that has no count.
-fn changed(w: World, c: Changed, at: usize, out: &mut [u8]) -> Answered {
-    let o = c.outcome;
-    let link = c.link;
-    let at = done(out, at, o);
-    let len = text(out, at, b"\n");
-    Answered {
-        world: w.with_link(link),
-        len,
+fn number(r: Refusal) -> usize {
+    link::refusal::number(r) as usize
+}
+
+fn refusal(o: Outcome) -> usize {
+    match o {
+        Outcome::Done => 0,
+        Outcome::Refused(r) => number(r),
     }
 }
 
-// The name is at the front of `src`, and the password behind it.
-fn made(
-    w: World,
+pub(crate) fn fresh() -> PPPoS {
+    let c = PPPoS::new(b"", b"", Reading::Crate);
+    c.link
+}
+
+fn changed(c: Changed, at: usize, out: &mut [u8]) -> PPPoS {
+    let o = c.outcome;
+    let at = say(out, at, b"!", &[refusal(o)]);
+    ended(out, at);
+    c.link
+}
+
+fn made(c: Call, line: &[u8], out: &mut [u8]) -> PPPoS {
+    let name = given(line, c.a_at, c.a);
+    let pass = given(line, c.b_at, c.b);
+    changed(PPPoS::new(name, pass, reading(c.c)), c.at, out)
+}
+
+fn consumed(c: Consumed, at: usize, rx: &[u8], fill: u8, out: &mut [u8]) -> PPPoS {
+    let o = c.outcome;
+    let at = say(out, at, b"! # rx=", &[refusal(o), c.count]);
+    let at = buffer(out, at, rx, fill);
+    ended(out, at);
+    c.link
+}
+
+fn consume(link: PPPoS, w: World, line: &[u8], rx: &mut [u8], out: &mut [u8]) -> PPPoS {
+    let c = w.call;
+    let n = lent(rx, c.a);
+    let r = link.consume(given(line, c.b_at, c.b), &mut rx[0..n]);
+    consumed(r, c.at, &rx[0..n], w.rx_fill, out)
+}
+
+// Its name in `show::name`, and up to two numbers.
+struct Action {
     name: usize,
-    pass: usize,
-    standard: bool,
-    src: &[u8],
-    out: &mut [u8],
-) -> Answered {
-    let n = lent(src, name);
-    let username = &src[0..n];
-    let password = front(&src[n..], pass);
-    let c = PPPoS::new(username, password, reading(standard));
-    let at = text(out, 0, b"new ");
-    changed(w, c, at, out)
+    a: usize,
+    b: usize,
 }
 
-fn open(w: World, out: &mut [u8]) -> Answered {
-    let link = w.link;
-    let at = text(out, 0, b"open ");
-    changed(w, link.open(), at, out)
-}
-
-fn counted(out: &mut [u8], o: Outcome, count: usize) -> usize {
-    let at = text(out, 0, b"consume ");
-    let at = done(out, at, o);
-    let at = text(out, at, b" ");
-    number(out, at, count)
-}
-
-fn consumed(w: World, c: Consumed, rx: &[u8], out: &mut [u8]) -> Answered {
-    let o = c.outcome;
-    let link = c.link;
-    let at = counted(out, o, c.count);
-    let len = end(out, at, b" rx=", rx, w.rx_fill);
-    Answered {
-        world: w.with_link(link),
-        len,
-    }
-}
-
-fn consume(w: World, room: usize, src: &[u8], rx: &mut [u8], out: &mut [u8]) -> Answered {
-    let n = lent(rx, room);
-    let link = w.link;
-    let c = link.consume(src, &mut rx[0..n]);
-    consumed(w, c, &rx[0..n], out)
-}
-
-fn action(out: &mut [u8], a: PPPoSAction) -> usize {
-    let at = text(out, 0, b"poll ");
+fn action_of(a: PPPoSAction) -> Action {
     match a {
-        PPPoSAction::Idle => text(out, at, b"none"),
-        PPPoSAction::Received { from, to } => {
-            let at = text(out, at, b"received ");
-            let at = number(out, at, from);
-            let at = text(out, at, b" ");
-            number(out, at, to)
-        }
-        PPPoSAction::Transmit(n) => {
-            let at = text(out, at, b"transmit ");
-            number(out, at, n)
-        }
-        PPPoSAction::Declined(r) => declined(out, at, r),
+        PPPoSAction::Idle => Action {
+            name: 2,
+            a: NONE,
+            b: NONE,
+        },
+        PPPoSAction::Received { from, to } => Action {
+            name: 3,
+            a: from,
+            b: to,
+        },
+        PPPoSAction::Transmit(n) => Action {
+            name: 4,
+            a: n,
+            b: NONE,
+        },
+        PPPoSAction::Declined(r) => Action {
+            name: 1,
+            a: number(r),
+            b: NONE,
+        },
     }
 }
 
-fn polled(w: World, p: Polled, tx: &[u8], rx: &[u8], out: &mut [u8]) -> Answered {
+// What a poll says, and the buffers that it was lent.
+fn told(a: Action, w: World, tx: &[u8], rx: &[u8], out: &mut [u8]) {
+    let c = w.call;
+    let at = say(out, c.at, b"$** tx=", &[a.name, a.a, a.b]);
+    let at = buffer(out, at, tx, w.tx_fill);
+    let at = text(out, at, b" rx=");
+    let at = buffer(out, at, rx, w.rx_fill);
+    ended(out, at);
+}
+
+fn polled(link: PPPoS, w: World, tx: &mut [u8], rx: &mut [u8], out: &mut [u8]) -> PPPoS {
+    let p = link.poll(tx, rx);
     let a = p.action;
-    let link = p.link;
-    let at = action(out, a);
-    let at = field(out, at, b" tx=", tx, w.tx_fill);
-    let len = end(out, at, b" rx=", rx, w.rx_fill);
-    Answered {
-        world: w.with_link(link),
-        len,
-    }
+    told(action_of(a), w, tx, rx, out);
+    p.link
 }
 
-fn poll(
-    w: World,
-    tx_room: usize,
-    rx_room: usize,
-    tx: &mut [u8],
-    rx: &mut [u8],
-    out: &mut [u8],
-) -> Answered {
-    let n = lent(tx, tx_room);
-    let m = lent(rx, rx_room);
-    let link = w.link;
-    let p = link.poll(&mut tx[0..n], &mut rx[0..m]);
-    polled(w, p, &tx[0..n], &rx[0..m], out)
+fn poll(link: PPPoS, w: World, tx: &mut [u8], rx: &mut [u8], out: &mut [u8]) -> PPPoS {
+    let c = w.call;
+    let n = lent(tx, c.a);
+    let m = lent(rx, c.b);
+    polled(link, w, &mut tx[0..n], &mut rx[0..m], out)
 }
 
 // A refused call's count is 0, and it is not shown.
-fn sent(out: &mut [u8], o: Outcome, count: usize) -> usize {
-    let at = text(out, 0, b"send ");
+fn sent(out: &mut [u8], at: usize, o: Outcome, count: usize) -> usize {
     match o {
-        Outcome::Done => {
-            let at = text(out, at, b"ok ");
-            number(out, at, count)
-        }
-        Outcome::Refused(r) => declined(out, at, r),
+        Outcome::Done => say(out, at, b"ok # tx=", &[count]),
+        Outcome::Refused(r) => say(out, at, b"! tx=", &[number(r)]),
     }
 }
 
-fn send(w: World, room: usize, src: &[u8], tx: &mut [u8], out: &mut [u8]) -> Answered {
-    let n = lent(tx, room);
-    let link = w.link;
-    let s = link.send(src, &mut tx[0..n]);
+fn send(link: PPPoS, w: World, src: &[u8], tx: &mut [u8], out: &mut [u8]) {
+    let c = w.call;
+    let s = link.send(src, tx);
     let o = s.outcome;
-    let at = sent(out, o, s.count);
-    let len = end(out, at, b" tx=", &tx[0..n], w.tx_fill);
-    Answered { world: w, len }
+    let at = sent(out, c.at, o, s.count);
+    let at = buffer(out, at, tx, w.tx_fill);
+    ended(out, at);
 }
 
 // Where the part that the call answers begins: a range that runs backwards or past the end is the empty one at the start.
@@ -158,47 +148,86 @@ fn begin(from: usize, to: usize, room: usize) -> usize {
     from
 }
 
-fn part(w: World, from: usize, to: usize, room: usize, rx: &[u8], out: &mut [u8]) -> Answered {
-    let n = lent(rx, room);
-    let packet = ip_packet(&rx[0..n], from, to);
-    let at = text(out, 0, b"part ");
-    let at = number(out, at, begin(from, to, n));
-    let at = text(out, at, b" ");
-    let at = bytes(out, at, packet);
-    let len = text(out, at, b"\n");
-    Answered { world: w, len }
+fn part(out: &mut [u8], at: usize, from: usize, to: usize, rx: &[u8]) -> usize {
+    let at = say(out, at, b"# ", &[begin(from, to, rx.len())]);
+    bytes(out, at, ip_packet(rx, from, to))
 }
 
-// The status lines, as one.
-fn status(w: World, out: &mut [u8]) -> Answered {
+fn not_feed(c: u8) -> u8 {
+    if c == b'\n' { b' ' } else { c }
+}
+
+// Lines, each ended by a line feed, as one: blanks stand for the line feeds but the last, which is left out.
+fn one_line(out: &mut [u8], at: usize, s: &[u8]) -> usize {
+    let mut at = at;
+    let mut i = 1;
+    while i < s.len() {
+        at = put(out, at, not_feed(s[i - 1]));
+        i += 1;
+    }
+    at
+}
+
+fn status(out: &mut [u8], at: usize, link: PPPoS) -> usize {
     let mut six = [0u8; 111];
-    let link = w.link;
     let wrote = lines(link.status(), &mut six);
-    let at = text(out, 0, b"status ");
-    let len = one_line(out, at, front(&six, wrote.count));
-    Answered { world: w, len }
+    one_line(out, at, front(&six, wrote.count))
 }
 
-pub(crate) fn run(
+// The calls that leave link and buffers as they are.
+fn shown(link: PPPoS, c: Call, rx: &[u8], out: &mut [u8]) -> usize {
+    let k = c.number;
+    match k {
+        15 => part(out, c.at, c.a, c.b, front(rx, c.c)),
+        16 => status(out, c.at, link),
+        _ => dump(out, c.at, link),
+    }
+}
+
+// The calls that leave the link as it is.
+fn told_of(link: PPPoS, w: World, line: &[u8], tx: &mut [u8], rx: &[u8], out: &mut [u8]) {
+    let c = w.call;
+    if c.number == 14 {
+        let n = lent(tx, c.a);
+        send(link, w, given(line, c.b_at, c.b), &mut tx[0..n], out);
+        return;
+    }
+    let at = shown(link, c, rx, out);
+    ended(out, at);
+}
+
+fn opened(link: PPPoS, at: usize, out: &mut [u8]) -> PPPoS {
+    changed(link.open(), at, out)
+}
+
+fn anew(link: PPPoS, c: Call, line: &[u8], out: &mut [u8]) -> PPPoS {
+    let k = c.number;
+    match k {
+        0 => fresh(),
+        10 => made(c, line, out),
+        _ => opened(link, c.at, out),
+    }
+}
+
+// By the numbers of `call::named`.
+pub(crate) fn linked(
+    link: PPPoS,
     w: World,
-    call: LinkCall,
-    src: &[u8],
+    line: &[u8],
     tx: &mut [u8],
     rx: &mut [u8],
     out: &mut [u8],
-) -> Answered {
-    match call {
-        LinkCall::New {
-            name,
-            pass,
-            standard,
-        } => made(w, name, pass, standard, src, out),
-        LinkCall::Open => open(w, out),
-        LinkCall::Consume { room, count } => consume(w, room, front(src, count), rx, out),
-        LinkCall::Poll { tx_room, rx_room } => poll(w, tx_room, rx_room, tx, rx, out),
-        LinkCall::Send { room, count } => send(w, room, front(src, count), tx, out),
-        LinkCall::Part { from, to, room } => part(w, from, to, room, rx, out),
-        LinkCall::Status => status(w, out),
-        LinkCall::Dump => dump(w, out),
+) -> PPPoS {
+    let c = w.call;
+    let k = c.number;
+    match k {
+        0 | 10 | 11 => anew(link, c, line, out),
+        12 => consume(link, w, line, rx, out),
+        13 => poll(link, w, tx, rx, out),
+        14..=17 => {
+            told_of(link, w, line, tx, rx, out);
+            link
+        }
+        _ => link,
     }
 }

@@ -1,11 +1,12 @@
 // Text: each function puts its own behind what is there, and answers where the next goes.
 ghost use Prim.Native.Nat.{_≤_};
 ghost use lib.ListN.{length};
-use framing::refusal::Outcome;
-use framing::refusal::Refusal;
+use crate::word::NONE;
+use crate::word::nth;
+use crate::world::lent;
 
 // A character that finds no room is dropped.
-fn put(out: &mut [u8], at: usize, c: u8) -> usize {
+pub(crate) fn put(out: &mut [u8], at: usize, c: u8) -> usize {
     if at < out.len() {
         out[at] = c;
         return at + 1;
@@ -31,40 +32,6 @@ fn glyph(x: u8) -> u8 {
 fn two_digits(out: &mut [u8], at: usize, b: u8) -> usize {
     let next = put(out, at, glyph(b / 16));
     put(out, next, glyph(b))
-}
-
-// A decimal number.
-pub(crate) fn number(out: &mut [u8], at: usize, n: usize) -> usize {
-    let mut digits = [0u8; 20];
-    let k = io::decimal(n as u64, &mut digits);
-    text(out, at, &digits[..k])
-}
-
-pub(crate) fn wide(x: u8) -> usize {
-    x as usize
-}
-
-fn narrow(x: u16) -> u8 {
-    (x % 256) as u8
-}
-
-// Four hex digits.
-pub(crate) fn word(out: &mut [u8], at: usize, x: u16) -> usize {
-    let next = two_digits(out, at, narrow(x / 256));
-    two_digits(out, next, narrow(x))
-}
-
-// Eight hex digits.
-pub(crate) fn long(out: &mut [u8], at: usize, x: u32) -> usize {
-    let next = word(out, at, (x / 0x1_0000 % 0x1_0000) as u16);
-    word(out, next, (x % 0x1_0000) as u16)
-}
-
-pub(crate) fn flag(out: &mut [u8], at: usize, b: bool) -> usize {
-    if b {
-        return put(out, at, b'1');
-    }
-    put(out, at, b'0')
 }
 
 fn digits(out: &mut [u8], at: usize, s: &[u8]) -> usize {
@@ -97,63 +64,104 @@ fn used(s: &[u8], fill: u8) -> usize
 }
 
 // A lent buffer, with the fill bytes at its end as their count.
-fn buffer(out: &mut [u8], at: usize, s: &[u8], fill: u8) -> usize {
+pub(crate) fn buffer(out: &mut [u8], at: usize, s: &[u8], fill: u8) -> usize {
     let n = used(s, fill);
     let at = bytes(out, at, &s[0..n]);
     let at = put(out, at, b'+');
     number(out, at, s.len() - n)
 }
 
-// A name, and the buffer that was lent.
-pub(crate) fn field(out: &mut [u8], at: usize, name: &[u8], s: &[u8], fill: u8) -> usize {
-    let at = text(out, at, name);
-    buffer(out, at, s, fill)
+// The answer's end, and its way out.
+pub(crate) fn ended(out: &mut [u8], at: usize) {
+    let at = put(out, at, b'\n');
+    let n = lent(out, at);
+    io::write_all(libc::STDOUT_FILENO, &out[0..n]);
 }
 
-// The same at the end of an answer.
-pub(crate) fn end(out: &mut [u8], at: usize, name: &[u8], s: &[u8], fill: u8) -> usize {
-    let at = field(out, at, name, s, fill);
-    text(out, at, b"\n")
+pub(crate) fn ok(out: &mut [u8], at: usize) {
+    let at = text(out, at, b"ok");
+    ended(out, at);
 }
 
-fn not_feed(c: u8) -> u8 {
-    if c == b'\n' { b' ' } else { c }
+fn number(out: &mut [u8], at: usize, n: usize) -> usize {
+    let mut digits = [0u8; 20];
+    let k = io::decimal(n as u64, &mut digits);
+    text(out, at, &digits[..k])
 }
 
-// Lines, each ended by a line feed, as one: blanks stand for the line feeds but the last.
-pub(crate) fn one_line(out: &mut [u8], at: usize, s: &[u8]) -> usize {
+// As many of the last hex digits as `unit` has.
+fn hex(out: &mut [u8], at: usize, n: usize, unit: usize) -> usize {
     let mut at = at;
-    let mut i = 1;
-    while i < s.len() {
-        at = put(out, at, not_feed(s[i - 1]));
+    let mut unit = unit;
+    while unit > 0 {
+        at = put(out, at, glyph((n / unit % 16) as u8));
+        unit /= 16;
+    }
+    at
+}
+
+// A name by its number.
+fn name(out: &mut [u8], at: usize, k: usize) -> usize {
+    let names =
+        b"ok refuse none received transmit closed opened reqsent ackreceived acksent pap start address data complete dead establish auth network open";
+    text(out, at, nth(names, k))
+}
+
+// `ok` for 0, and otherwise `refuse` with the number.
+fn verdict(out: &mut [u8], at: usize, n: usize) -> usize {
+    if n == 0 {
+        return name(out, at, 0);
+    }
+    let at = name(out, at, 1);
+    let at = put(out, at, b' ');
+    number(out, at, n)
+}
+
+// A blank and a number, if there is one.
+fn perhaps(out: &mut [u8], at: usize, n: usize) -> usize {
+    if n == NONE {
+        return at;
+    }
+    let at = put(out, at, b' ');
+    number(out, at, n)
+}
+
+fn mark(out: &mut [u8], at: usize, c: u8, n: usize) -> usize {
+    match c {
+        b'!' => verdict(out, at, n),
+        b'#' => number(out, at, n),
+        b'$' => name(out, at, n),
+        b'%' => hex(out, at, n, 0x1000_0000),
+        b'&' => hex(out, at, n, 0x1000),
+        b'*' => perhaps(out, at, n),
+        _ => put(out, at, c),
+    }
+}
+
+fn value(values: &[usize], k: usize) -> usize {
+    if k < values.len() { values[k] } else { 0 }
+}
+
+// The next value is wanted behind a mark.
+fn after(values: &[usize], k: usize, c: u8) -> usize {
+    if k < values.len() {
+        if b'!' <= c && c <= b'*' {
+            return k + 1;
+        }
+    }
+    k
+}
+
+// A text in which each mark stands for the next value.
+pub(crate) fn say(out: &mut [u8], at: usize, form: &[u8], values: &[usize]) -> usize {
+    let mut at = at;
+    let mut k = 0;
+    let mut i = 0;
+    while i < form.len() {
+        let c = form[i];
+        at = mark(out, at, c, value(values, k));
+        k = after(values, k, c);
         i += 1;
     }
-    text(out, at, b"\n")
-}
-
-pub(crate) fn refused(out: &mut [u8], at: usize, r: Refusal) -> usize {
-    let at = text(out, at, b"refuse ");
-    number(out, at, wide(framing::refusal::number(r)))
-}
-
-// What the link answers a refused call with.
-pub(crate) fn declined(out: &mut [u8], at: usize, r: link::refusal::Refusal) -> usize {
-    let at = text(out, at, b"refuse ");
-    number(out, at, wide(link::refusal::number(r)))
-}
-
-// `ok`, or `refuse` and the number.
-pub(crate) fn done(out: &mut [u8], at: usize, o: link::refusal::Outcome) -> usize {
-    match o {
-        link::refusal::Outcome::Done => text(out, at, b"ok"),
-        link::refusal::Outcome::Refused(r) => declined(out, at, r),
-    }
-}
-
-// The same for the writer and the reader alone.
-pub(crate) fn outcome(out: &mut [u8], at: usize, o: Outcome) -> usize {
-    match o {
-        Outcome::Done => text(out, at, b"ok"),
-        Outcome::Refused(r) => refused(out, at, r),
-    }
+    at
 }

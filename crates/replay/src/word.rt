@@ -1,5 +1,4 @@
-// Words of a line, and the numbers and bytes that they spell.
-ghost use Prim.Native.Nat.{_≤_};
+// Words of a line or a list, and the numbers and bytes that they spell.
 
 // The word from `from` up to `to`; where both are equal there is none.
 pub(crate) struct Word {
@@ -7,19 +6,8 @@ pub(crate) struct Word {
     pub(crate) to: usize,
 }
 
-// The first words of a line. `count` counts one more, if it is there: no call has so many.
-pub(crate) struct Words {
-    pub(crate) name: Word,
-    pub(crate) first: Word,
-    pub(crate) second: Word,
-    pub(crate) third: Word,
-    pub(crate) count: usize,
-}
-
-pub(crate) enum Found {
-    Is(usize),
-    Nothing,
-}
+// What a word that spells no number has as its value.
+pub(crate) const NONE: usize = usize::MAX;
 
 fn is_blank(b: u8) -> bool {
     b == b' ' || b == b'\t' || b == b'\r'
@@ -37,34 +25,10 @@ fn end_of(line: &[u8], at: usize, blanks: bool) -> usize {
     i
 }
 
-fn next(line: &[u8], at: usize) -> Word {
+pub(crate) fn next(line: &[u8], at: usize) -> Word {
     let from = end_of(line, at, true);
     let to = end_of(line, from, false);
     Word { from, to }
-}
-
-fn present(w: Word) -> usize
-    ensures { λ r. ⌜ r ≤ 1 ⌝ }
-{
-    let from = w.from;
-    let to = w.to;
-    if from < to { 1 } else { 0 }
-}
-
-pub(crate) fn split(line: &[u8]) -> Words {
-    let name = next(line, 0);
-    let first = next(line, name.to);
-    let second = next(line, first.to);
-    let third = next(line, second.to);
-    let more = next(line, third.to);
-    let count = present(name) + present(first) + present(second) + present(third) + present(more);
-    Words {
-        name,
-        first,
-        second,
-        third,
-        count,
-    }
 }
 
 // The word's own bytes.
@@ -78,6 +42,32 @@ pub(crate) fn part<'a>(line: &'a [u8], w: Word) -> &'a [u8] {
         return &line[..0];
     }
     &line[from..to]
+}
+
+// The word with the number `k` in a list.
+pub(crate) fn nth(list: &[u8], k: usize) -> &[u8] {
+    let mut w = next(list, 0);
+    let mut k = k;
+    while k > 0 {
+        w = next(list, w.to);
+        k -= 1;
+    }
+    part(list, w)
+}
+
+// The number of a word in a list. No word at all has the number behind the last, and any other word a larger one.
+pub(crate) fn which(list: &[u8], word: &[u8]) -> usize {
+    let mut at = 0;
+    let mut k = 0;
+    while k < list.len() {
+        let w = next(list, at);
+        if check::same(part(list, w), word) {
+            return k;
+        }
+        at = w.to;
+        k += 1;
+    }
+    k
 }
 
 // A hex digit's value, or 16.
@@ -94,83 +84,70 @@ fn digit(c: u8) -> u8 {
     16
 }
 
-fn wide(x: u8) -> usize {
-    x as usize
+// A number with one digit more.
+fn grown(n: usize, d: u8, decimal: bool) -> usize {
+    if n > 0xFFF_FFFF {
+        return NONE;
+    }
+    if decimal && d < 10 {
+        return n * 10 + d as usize;
+    }
+    if decimal || d > 15 {
+        return NONE;
+    }
+    n * 16 + d as usize
 }
 
-// A decimal number up to 4,096.
-pub(crate) fn decimal(word: &[u8]) -> Found {
-    let mut n: usize = 0;
+// A number of `least` to `most` digits, of eight hex digits at most.
+pub(crate) fn number(word: &[u8], decimal: bool, least: usize, most: usize) -> usize {
+    if word.len() < least || most < word.len() {
+        return NONE;
+    }
+    let mut n = 0;
     let mut i = 0;
     while i < word.len() {
-        let d = wide(digit(word[i]));
-        if d > 9 {
-            return Found::Nothing;
-        }
-        if n > 4096 {
-            return Found::Nothing;
-        }
-        n = n * 10 + d;
+        n = grown(n, digit(word[i]), decimal);
         i += 1;
     }
-    if i == 0 || n > 4096 {
-        return Found::Nothing;
-    }
-    Found::Is(n)
-}
-
-// A hex number of 1 to `most` digits, 8 at most.
-pub(crate) fn hex(word: &[u8], most: usize) -> Found {
-    if word.len() == 0 || most < word.len() {
-        return Found::Nothing;
-    }
-    let mut n: usize = 0;
-    let mut i = 0;
-    while i < word.len() {
-        let d = wide(digit(word[i]));
-        if d > 15 {
-            return Found::Nothing;
-        }
-        n = (n % 0x1000_0000) * 16 + d;
-        i += 1;
-    }
-    Found::Is(n)
+    n
 }
 
 fn pair(high: u8, low: u8) -> u8 {
     (high % 16) * 16 + low % 16
 }
 
-// Two digits for each byte: the bytes go to the front of `dst`, and their count is the answer.
-fn pairs(word: &[u8], dst: &mut [u8]) -> Found {
+// Two digits for each byte: the bytes take the place of the first digits, and their count is the answer.
+fn pairs(word: &mut [u8]) -> usize {
     let mut n = 0;
     let mut i = 0;
     while i < word.len() {
         if word.len() - i < 2 {
-            return Found::Nothing;
-        }
-        if n >= dst.len() {
-            return Found::Nothing;
+            return NONE;
         }
         let high = digit(word[i]);
         let low = digit(word[i + 1]);
         if high > 15 || low > 15 {
-            return Found::Nothing;
+            return NONE;
         }
-        dst[n] = pair(high, low);
+        word[n] = pair(high, low);
         n += 1;
         i += 2;
     }
-    Found::Is(n)
+    n
 }
 
 // Bytes in hex, or `-` for none.
-pub(crate) fn bytes(word: &[u8], dst: &mut [u8]) -> Found {
-    if word.len() == 0 {
-        return Found::Nothing;
+pub(crate) fn bytes(line: &mut [u8], w: Word) -> usize {
+    let from = w.from;
+    let to = w.to;
+    if line.len() < to {
+        return NONE;
     }
-    if check::same(word, b"-") {
-        return Found::Is(0);
+    if to <= from {
+        return NONE;
     }
-    pairs(word, dst)
+    if check::same(&line[from..to], b"-") {
+        return 0;
+    }
+    pairs(&mut line[from..to])
 }

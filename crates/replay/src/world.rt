@@ -1,101 +1,46 @@
-// What stands from line to line.
+// What stands from line to line, but for the link.
 ghost use Prim.Native.Nat.{_≤_};
 ghost use lib.ListN.{length};
-use crate::show::text;
+use crate::call::Call;
+use crate::call::QUIET;
+use crate::call::none;
+use crate::line::Input;
+use crate::line::arrived_at;
 use framing::frame_reader::FrameReader;
 use framing::frame_reader::Reading;
 use framing::frame_writer::FrameWriter;
-use link::pppos::PPPoS;
 
 // Writer and reader have each a buffer that is lent up to its room. The link has two, and each call says how much of them is lent.
 // The trailing bytes of a buffer are shown as a count where they are the fill byte.
 pub(crate) struct World {
+    pub(crate) input: Input,
+    pub(crate) call: Call,
+    pub(crate) over: bool,
     pub(crate) rx_fill: u8,
     pub(crate) tx_fill: u8,
     pub(crate) writer_room: usize,
     pub(crate) writer: FrameWriter,
     pub(crate) reader_room: usize,
     pub(crate) reader: FrameReader,
-    pub(crate) link: PPPoS,
 }
 
-// The world after a call, and how much of the answer's buffer its text takes.
-pub(crate) struct Answered {
-    pub(crate) world: World,
-    pub(crate) len: usize,
-}
-
-pub(crate) fn fresh() -> World {
-    let c = PPPoS::new(b"", b"", Reading::Crate);
-    let link = c.link;
+// As at the start, but for the input.
+pub(crate) fn fresh(input: Input, call: Call) -> World {
     World {
+        input,
+        call,
+        over: input.over,
         rx_fill: 0x00,
         tx_fill: 0xEE,
         writer_room: 0,
         writer: FrameWriter::new(),
         reader_room: 0,
         reader: FrameReader::new(Reading::Crate),
-        link,
     }
 }
 
-impl World {
-    pub(crate) fn with_writer(self, room: usize, writer: FrameWriter) -> Self {
-        let reader = self.reader;
-        let link = self.link;
-        World {
-            rx_fill: self.rx_fill,
-            tx_fill: self.tx_fill,
-            writer_room: room,
-            writer,
-            reader_room: self.reader_room,
-            reader,
-            link,
-        }
-    }
-
-    pub(crate) fn with_reader(self, room: usize, reader: FrameReader) -> Self {
-        let writer = self.writer;
-        let link = self.link;
-        World {
-            rx_fill: self.rx_fill,
-            tx_fill: self.tx_fill,
-            writer_room: self.writer_room,
-            writer,
-            reader_room: room,
-            reader,
-            link,
-        }
-    }
-
-    pub(crate) fn with_link(self, link: PPPoS) -> Self {
-        let writer = self.writer;
-        let reader = self.reader;
-        World {
-            rx_fill: self.rx_fill,
-            tx_fill: self.tx_fill,
-            writer_room: self.writer_room,
-            writer,
-            reader_room: self.reader_room,
-            reader,
-            link,
-        }
-    }
-
-    pub(crate) fn with_fills(self, rx_fill: u8, tx_fill: u8) -> Self {
-        let writer = self.writer;
-        let reader = self.reader;
-        let link = self.link;
-        World {
-            rx_fill,
-            tx_fill,
-            writer_room: self.writer_room,
-            writer,
-            reader_room: self.reader_room,
-            reader,
-            link,
-        }
-    }
+pub(crate) fn started() -> World {
+    fresh(arrived_at(0, 0, 0, false, false), none(QUIET))
 }
 
 // How much of a buffer is lent.
@@ -111,17 +56,18 @@ pub(crate) fn front(s: &[u8], n: usize) -> &[u8] {
     &s[0..k]
 }
 
-// A buffer as a call makes it anew: `b` in each byte that is lent.
-pub(crate) fn fill(buf: &mut [u8], b: u8) {
+// `n` bytes from `from` on, as far as there are so many.
+pub(crate) fn given(line: &[u8], from: usize, n: usize) -> &[u8] {
+    let k = lent(line, from);
+    front(&line[k..], n)
+}
+
+// `b` in each of the first `room` bytes.
+pub(crate) fn fill(buf: &mut [u8], room: usize, b: u8) {
+    let n = lent(buf, room);
     let mut i = 0;
-    while i < buf.len() {
+    while i < n {
         buf[i] = b;
         i += 1;
     }
-}
-
-// An answer of fixed text.
-pub(crate) fn said(world: World, out: &mut [u8], s: &[u8]) -> Answered {
-    let len = text(out, 0, s);
-    Answered { world, len }
 }

@@ -1,82 +1,70 @@
 // The writer's calls.
-use crate::call::WriterCall;
-use crate::show::end;
-use crate::show::number;
-use crate::show::outcome;
-use crate::show::text;
-use crate::show::word;
-use crate::world::Answered;
+use crate::show::buffer;
+use crate::show::ended;
+use crate::show::ok;
+use crate::show::say;
 use crate::world::World;
 use crate::world::fill;
-use crate::world::front;
+use crate::world::given;
 use crate::world::lent;
-use crate::world::said;
 use framing::frame_writer::FrameWriter;
 use framing::frame_writer::Wrote;
+use framing::refusal::Outcome;
 
-// The writer as a call leaves it.
-fn left(out: &mut [u8], at: usize, w: FrameWriter) -> usize {
-    let at = text(out, at, b" len=");
-    let at = number(out, at, w.len);
-    let at = text(out, at, b" crc=");
-    word(out, at, w.crc)
+pub(crate) fn refusal(o: Outcome) -> usize {
+    match o {
+        Outcome::Done => 0,
+        Outcome::Refused(r) => framing::refusal::number(r) as usize,
+    }
 }
 
-// What stands behind the call's name.
-fn wrote(w: World, r: Wrote, at: usize, buf: &[u8], out: &mut [u8]) -> Answered {
+fn made(mut w: World, buf: &mut [u8], out: &mut [u8]) -> World {
+    let c = w.call;
+    let writer = FrameWriter::new_with_asyncmap((c.b % 0x1_0000_0000) as u32);
+    fill(buf, c.a, w.tx_fill);
+    ok(out, c.at);
+    w.writer = writer;
+    w.writer_room = c.a;
+    w
+}
+
+fn step(writer: FrameWriter, k: usize, src: &[u8], buf: &mut [u8]) -> Wrote {
+    match k {
+        4 => writer.start(buf),
+        5 => writer.append(buf, src),
+        _ => writer.finish(buf),
+    }
+}
+
+// A call's answer, and the writer that it leaves.
+fn left(r: Wrote, at: usize, buf: &[u8], fill: u8, out: &mut [u8]) -> FrameWriter {
     let o = r.outcome;
-    let writer = r.writer;
-    let at = outcome(out, at, o);
-    let at = left(out, at, writer);
-    let len = end(out, at, b" buf=", buf, w.tx_fill);
-    Answered {
-        world: w.with_writer(w.writer_room, writer),
-        len,
+    let w = r.writer;
+    let at = say(
+        out,
+        at,
+        b"! len=# crc=& buf=",
+        &[refusal(o), w.len, w.crc as usize],
+    );
+    let at = buffer(out, at, buf, fill);
+    ended(out, at);
+    w
+}
+
+fn stepped(mut w: World, src: &[u8], buf: &mut [u8], out: &mut [u8]) -> World {
+    let c = w.call;
+    let writer = w.writer;
+    let r = step(writer, c.number, src, buf);
+    let writer = left(r, c.at, buf, w.tx_fill, out);
+    w.writer = writer;
+    w
+}
+
+pub(crate) fn run(w: World, line: &[u8], buf: &mut [u8], out: &mut [u8]) -> World {
+    let c = w.call;
+    if c.number == 3 {
+        return made(w, buf, out);
     }
-}
-
-fn start(w: World, buf: &mut [u8], out: &mut [u8]) -> Answered {
     let n = lent(buf, w.writer_room);
-    let writer = w.writer;
-    let r = writer.start(&mut buf[0..n]);
-    let at = text(out, 0, b"wstart ");
-    wrote(w, r, at, &buf[0..n], out)
-}
-
-fn append(w: World, src: &[u8], buf: &mut [u8], out: &mut [u8]) -> Answered {
-    let n = lent(buf, w.writer_room);
-    let writer = w.writer;
-    let r = writer.append(&mut buf[0..n], src);
-    let at = text(out, 0, b"wappend ");
-    wrote(w, r, at, &buf[0..n], out)
-}
-
-fn finish(w: World, buf: &mut [u8], out: &mut [u8]) -> Answered {
-    let n = lent(buf, w.writer_room);
-    let writer = w.writer;
-    let r = writer.finish(&mut buf[0..n]);
-    let at = text(out, 0, b"wfinish ");
-    wrote(w, r, at, &buf[0..n], out)
-}
-
-fn made(w: World, room: usize, asyncmap: u32, buf: &mut [u8], out: &mut [u8]) -> Answered {
-    let n = lent(buf, room);
-    fill(&mut buf[0..n], w.tx_fill);
-    let writer = FrameWriter::new_with_asyncmap(asyncmap);
-    said(w.with_writer(room, writer), out, b"wnew ok\n")
-}
-
-pub(crate) fn run(
-    w: World,
-    call: WriterCall,
-    src: &[u8],
-    buf: &mut [u8],
-    out: &mut [u8],
-) -> Answered {
-    match call {
-        WriterCall::New { room, asyncmap } => made(w, room, asyncmap, buf, out),
-        WriterCall::Start => start(w, buf, out),
-        WriterCall::Append(count) => append(w, front(src, count), buf, out),
-        WriterCall::Finish => finish(w, buf, out),
-    }
+    stepped(w, given(line, c.a_at, c.a), &mut buf[0..n], out)
 }

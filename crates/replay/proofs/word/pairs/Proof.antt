@@ -1,16 +1,16 @@
 -- `replay::word::pairs` is safe and ends.
 use borrow.Author.Needs.{needs}
 use lib.ListN.{length}
-use Prim.Native.Nat.{_-_}
+use Prim.Native.Nat.{_-_, _≤_}
 use mathlib.Core.Path.{_≡_}
 use Rattle.replay.proofs.word.pairs.Statement.{statement}
 use Rattle.replay.proofs.word.pairs.Tie as tie
 
 abbrev Inv-loop : tie.InvT-loop
-Inv-loop word dst₀ n₀ i₀ dst n i = length dst ≡ length dst₀
+Inv-loop word₀ n₀ i₀ word n i = (length word ≡ length word₀) × (n ≤ i)
 
 abbrev μ-loop : tie.MeasureT-loop
-μ-loop word dst₀ n₀ i₀ dst n i = length word - i
+μ-loop word₀ n₀ i₀ word n i = length word₀ - i
 
 loop-holds : tie.Need-loop-holds Inv-loop μ-loop
 loop-holds c = search needs
@@ -24,14 +24,8 @@ same-length c = search needs
 returns : tie.Need-returns Inv-loop μ-loop
 returns c = search needs
 
-same-length-2 : tie.Need-same-length-2 Inv-loop μ-loop
-same-length-2 c = search needs
-
-returns-2 : tie.Need-returns-2 Inv-loop μ-loop
-returns-2 c = search needs
-
-shared-slice-read-digit : tie.Need-shared-slice-read-digit Inv-loop μ-loop
-shared-slice-read-digit c = search needs
+slice-read-digit : tie.Need-slice-read-digit Inv-loop μ-loop
+slice-read-digit c = search needs
 
 digit-requires : tie.Need-digit-requires Inv-loop μ-loop
 digit-requires c κs = search needs
@@ -39,23 +33,23 @@ digit-requires c κs = search needs
 add-digit : tie.Need-add-digit Inv-loop μ-loop
 add-digit c = search needs
 
-shared-slice-read-digit-2 : tie.Need-shared-slice-read-digit-2 Inv-loop μ-loop
-shared-slice-read-digit-2 c = search needs
+slice-read-digit-2 : tie.Need-slice-read-digit-2 Inv-loop μ-loop
+slice-read-digit-2 c = search needs
 
 digit-requires-2 : tie.Need-digit-requires-2 Inv-loop μ-loop
 digit-requires-2 c κs = search needs
 
-same-length-3 : tie.Need-same-length-3 Inv-loop μ-loop
-same-length-3 c = search needs
+same-length-2 : tie.Need-same-length-2 Inv-loop μ-loop
+same-length-2 c = search needs
 
-returns-3 : tie.Need-returns-3 Inv-loop μ-loop
-returns-3 c = search needs
+returns-2 : tie.Need-returns-2 Inv-loop μ-loop
+returns-2 c = search needs
 
 pair-requires : tie.Need-pair-requires Inv-loop μ-loop
 pair-requires c κs = search needs
 
-slice-write-dst : tie.Need-slice-write-dst Inv-loop μ-loop
-slice-write-dst c = search needs
+slice-write-word : tie.Need-slice-write-word Inv-loop μ-loop
+slice-write-word c = search needs
 
 add-n : tie.Need-add-n Inv-loop μ-loop
 add-n c = search needs
@@ -69,11 +63,11 @@ loop-less c = search needs
 loop-again : tie.Need-loop-again Inv-loop μ-loop
 loop-again c = search needs
 
-same-length-4 : tie.Need-same-length-4 Inv-loop μ-loop
-same-length-4 c = search needs
+same-length-3 : tie.Need-same-length-3 Inv-loop μ-loop
+same-length-3 c = search needs
 
-returns-4 : tie.Need-returns-4 Inv-loop μ-loop
-returns-4 c = search needs
+returns-3 : tie.Need-returns-3 Inv-loop μ-loop
+returns-3 c = search needs
 
 pub pairs-spec : {M : Type 1} → statement M
 pairs-spec =
@@ -85,20 +79,18 @@ pairs-spec =
     sub-if1
     same-length
     returns
-    same-length-2
-    returns-2
-    shared-slice-read-digit
+    slice-read-digit
     digit-requires
     add-digit
-    shared-slice-read-digit-2
+    slice-read-digit-2
     digit-requires-2
-    same-length-3
-    returns-3
+    same-length-2
+    returns-2
     pair-requires
-    slice-write-dst
+    slice-write-word
     add-n
     add-i
     loop-less
     loop-again
-    same-length-4
-    returns-4)
+    same-length-3
+    returns-3)

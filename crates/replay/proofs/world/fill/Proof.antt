@@ -7,10 +7,13 @@ use Rattle.replay.proofs.world.fill.Statement.{statement}
 use Rattle.replay.proofs.world.fill.Tie as tie
 
 abbrev Inv-loop : tie.InvT-loop
-Inv-loop buf₀ b i₀ buf i = length buf ≡ length buf₀
+Inv-loop buf₀ room b n i₀ buf i = length buf ≡ length buf₀
 
 abbrev μ-loop : tie.MeasureT-loop
-μ-loop buf₀ b i₀ buf i = length buf₀ - i
+μ-loop buf₀ room b n i₀ buf i = n - i
+
+lent-requires : tie.Need-lent-requires Inv-loop μ-loop
+lent-requires c κs = search needs
 
 loop-holds : tie.Need-loop-holds Inv-loop μ-loop
 loop-holds c = search needs
@@ -39,6 +42,7 @@ fill-spec =
     (tie.spec
     Inv-loop
     μ-loop
+    lent-requires
     loop-holds
     slice-write-buf
     add-i

@@ -1,16 +1,16 @@
--- `replay::show::one_line` is safe and ends.
+-- `replay::pppos::one_line` is safe and ends.
 use borrow.Author.Needs.{needs}
 use lib.ListN.{length}
 use Prim.Native.Nat.{_-_, _≤_}
 use mathlib.Core.Path.{_≡_}
-use Rattle.replay.proofs.show.one_line.Statement.{statement}
-use Rattle.replay.proofs.show.one_line.Tie as tie
+use Rattle.replay.proofs.pppos.one_line.Statement.{statement}
+use Rattle.replay.proofs.pppos.one_line.Tie as tie
 
 abbrev Inv-loop : tie.InvT-loop
-Inv-loop out₀ at s at₀ i₀ t6 out at' i = (1 ≤ i) × (length out ≡ length out₀)
+Inv-loop out₀ at s at₀ i₀ out at' i = (1 ≤ i) × (length out ≡ length out₀)
 
 abbrev μ-loop : tie.MeasureT-loop
-μ-loop out₀ at s at₀ i₀ t6 out at' i = length s - i
+μ-loop out₀ at s at₀ i₀ out at' i = length s - i
 
 loop-holds : tie.Need-loop-holds Inv-loop μ-loop
 loop-holds c = search needs
@@ -36,12 +36,6 @@ loop-less c = search needs
 loop-again : tie.Need-loop-again Inv-loop μ-loop
 loop-again c = search needs
 
-slice-aggregate-text : tie.Need-slice-aggregate-text Inv-loop μ-loop
-slice-aggregate-text c = search needs
-
-text-requires : tie.Need-text-requires Inv-loop μ-loop
-text-requires c κs = search needs
-
 same-length : tie.Need-same-length Inv-loop μ-loop
 same-length c = search needs
 
@@ -62,7 +56,5 @@ one-line-spec =
     add-i
     loop-less
     loop-again
-    slice-aggregate-text
-    text-requires
     same-length
     returns)

@@ -1,15 +1,15 @@
--- `replay::word::hex` is safe and ends.
+-- `replay::word::number` is safe and ends.
 use borrow.Author.Needs.{needs}
 use lib.ListN.{length}
 use Prim.Native.Nat.{_-_}
-use Rattle.replay.proofs.word.hex.Statement.{statement}
-use Rattle.replay.proofs.word.hex.Tie as tie
+use Rattle.replay.proofs.word.number.Statement.{statement}
+use Rattle.replay.proofs.word.number.Tie as tie
 
 abbrev Inv-loop : tie.InvT-loop
-Inv-loop word most n₀ i₀ n i = Unit {0}
+Inv-loop word decimal least most n₀ i₀ n i = Unit {0}
 
 abbrev μ-loop : tie.MeasureT-loop
-μ-loop word most n₀ i₀ n i = length word - i
+μ-loop word decimal least most n₀ i₀ n i = length word - i
 
 returns : tie.Need-returns Inv-loop μ-loop
 returns c = search needs
@@ -23,17 +23,8 @@ shared-slice-read-digit c = search needs
 digit-requires : tie.Need-digit-requires Inv-loop μ-loop
 digit-requires c κs = search needs
 
-wide-requires : tie.Need-wide-requires Inv-loop μ-loop
-wide-requires c κs = search needs
-
-returns-2 : tie.Need-returns-2 Inv-loop μ-loop
-returns-2 c = search needs
-
-mul-n : tie.Need-mul-n Inv-loop μ-loop
-mul-n c = search needs
-
-add-n : tie.Need-add-n Inv-loop μ-loop
-add-n c = search needs
+grown-requires : tie.Need-grown-requires Inv-loop μ-loop
+grown-requires c κs = search needs
 
 add-i : tie.Need-add-i Inv-loop μ-loop
 add-i c = search needs
@@ -44,11 +35,11 @@ loop-less c = search needs
 loop-again : tie.Need-loop-again Inv-loop μ-loop
 loop-again c = search needs
 
-returns-3 : tie.Need-returns-3 Inv-loop μ-loop
-returns-3 c = search needs
+returns-2 : tie.Need-returns-2 Inv-loop μ-loop
+returns-2 c = search needs
 
-pub hex-spec : {M : Type 1} → statement M
-hex-spec =
+pub number-spec : {M : Type 1} → statement M
+number-spec =
     tie.close
     (tie.spec
     Inv-loop
@@ -57,11 +48,8 @@ hex-spec =
     loop-holds
     shared-slice-read-digit
     digit-requires
-    wide-requires
-    returns-2
-    mul-n
-    add-n
+    grown-requires
     add-i
     loop-less
     loop-again
-    returns-3)
+    returns-2)
