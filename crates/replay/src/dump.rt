@@ -2,9 +2,9 @@
 use crate::reader::left;
 use crate::show::say;
 use link::pppos::PPPoS;
-use options::lcp::AuthType;
 use negotiation::pap::PapState;
 use negotiation::states::State;
+use options::lcp::AuthType;
 use phases::ppp::Ipv4cpFsm;
 use phases::ppp::LcpFsm;
 use phases::ppp::Phase;
