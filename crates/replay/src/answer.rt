@@ -96,7 +96,9 @@ fn asked(line: &mut [u8], i: Input, out: &mut [u8]) -> Call {
 fn listened(mut w: World, chunk: &mut [u8], line: &mut [u8], out: &mut [u8]) -> World {
     let i = w.input;
     let i = more(chunk, line, i);
-    let c = asked(line, i, out);
+    let mut c = asked(line, i, out);
+    c.rx_fill = w.rx_fill;
+    c.tx_fill = w.tx_fill;
     w.input = i;
     w.over = i.over;
     w.call = c;

@@ -10,7 +10,7 @@ use crate::word::part;
 use crate::word::which;
 
 // A call by its number in the list of `named`, where its answer goes on behind the name, and the values of the words behind its name. The value of bytes is their count, and
-// they stand in the line where their word began.
+// they stand in the line where their word began. The fill bytes are those of the world.
 pub(crate) struct Call {
     pub(crate) number: usize,
     pub(crate) at: usize,
@@ -19,6 +19,8 @@ pub(crate) struct Call {
     pub(crate) b: usize,
     pub(crate) b_at: usize,
     pub(crate) c: usize,
+    pub(crate) rx_fill: u8,
+    pub(crate) tx_fill: u8,
 }
 
 // A word behind the name. A word that is not of the kind that the call has there makes the line a bad one.
@@ -116,6 +118,8 @@ pub(crate) fn none(number: usize) -> Call {
         b: 0,
         b_at: 0,
         c: 0,
+        rx_fill: 0,
+        tx_fill: 0,
     }
 }
 
@@ -149,6 +153,8 @@ fn words(line: &mut [u8], out: &mut [u8]) -> Call {
         b: b.value,
         b_at: b.from,
         c: c.value,
+        rx_fill: 0,
+        tx_fill: 0,
     }
 }
 

@@ -8,8 +8,9 @@ use options::lcp::AuthType;
 use phases::ppp::Ipv4cpFsm;
 use phases::ppp::LcpFsm;
 use phases::ppp::Phase;
+use phases::ppp::Ppp;
 
-fn phase(p: Phase) -> usize {
+fn phase_name(p: Phase) -> usize {
     match p {
         Phase::Dead => 15,
         Phase::Establish => 16,
@@ -19,7 +20,7 @@ fn phase(p: Phase) -> usize {
     }
 }
 
-fn state(s: State) -> usize {
+fn state_name(s: State) -> usize {
     match s {
         State::Closed => 5,
         State::ReqSent => 7,
@@ -29,7 +30,7 @@ fn state(s: State) -> usize {
     }
 }
 
-fn pap_state(s: PapState) -> usize {
+fn pap_name(s: PapState) -> usize {
     match s {
         PapState::Closed => 5,
         PapState::ReqSent => 7,
@@ -37,7 +38,7 @@ fn pap_state(s: PapState) -> usize {
     }
 }
 
-fn auth(a: AuthType) -> usize {
+fn auth_name(a: AuthType) -> usize {
     match a {
         AuthType::None => 2,
         AuthType::Pap => 10,
@@ -53,9 +54,9 @@ fn lcp(out: &mut [u8], at: usize, f: LcpFsm) -> usize {
         at,
         b" lcp=$ lcpid=# auth=$ remote=% map=% maprej=#",
         &[
-            state(s),
+            state_name(s),
             f.id as usize,
-            auth(a),
+            auth_name(a),
             q.asyncmap_remote as usize,
             q.asyncmap as usize,
             q.asyncmap_rej as usize,
@@ -74,7 +75,7 @@ fn ipv4cp(out: &mut [u8], at: usize, f: Ipv4cpFsm) -> usize {
         at,
         b" ipcp=$ ipcpid=# peer=% addr=% addrrej=# dns1=% dns1rej=# dns2=% dns2rej=#",
         &[
-            state(s),
+            state_name(s),
             f.id as usize,
             q.peer_address as usize,
             a.address as usize,
@@ -87,26 +88,39 @@ fn ipv4cp(out: &mut [u8], at: usize, f: Ipv4cpFsm) -> usize {
     )
 }
 
-fn negotiated(out: &mut [u8], at: usize, p: phases::ppp::Ppp) -> usize {
-    let f = p.phase;
-    let l = p.lcp;
-    let i = p.ipv4cp;
-    let a = p.pap;
-    let s = a.state;
-    let at = say(
+fn phase(out: &mut [u8], at: usize, p: Phase, opening: bool) -> usize {
+    say(
         out,
         at,
         b" phase=$ opening=#",
-        &[phase(f), p.opening as usize],
-    );
+        &[phase_name(p), opening as usize],
+    )
+}
+
+fn pap(out: &mut [u8], at: usize, s: PapState, id: u8) -> usize {
+    say(out, at, b" pap=$ papid=#", &[pap_name(s), id as usize])
+}
+
+fn negotiated(out: &mut [u8], at: usize, p: Ppp) -> usize {
+    let l = p.lcp;
+    let i = p.ipv4cp;
     let at = lcp(out, at, l);
-    let at = ipv4cp(out, at, i);
-    say(out, at, b" pap=$ papid=#", &[pap_state(s), a.id as usize])
+    ipv4cp(out, at, i)
+}
+
+// The phase before what is negotiated, and the password's state behind it.
+fn whole(out: &mut [u8], at: usize, p: Ppp) -> usize {
+    let f = p.phase;
+    let a = p.pap;
+    let s = a.state;
+    let at = phase(out, at, f, p.opening);
+    let at = negotiated(out, at, p);
+    pap(out, at, s, a.id)
 }
 
 pub(crate) fn dump(out: &mut [u8], at: usize, link: PPPoS) -> usize {
     let r = link.frame_reader;
     let p = link.ppp;
     let at = left(out, at, r);
-    negotiated(out, at, p)
+    whole(out, at, p)
 }

@@ -60,11 +60,10 @@ fn consumed(c: Consumed, at: usize, rx: &[u8], fill: u8, out: &mut [u8]) -> PPPo
     c.link
 }
 
-fn consume(link: PPPoS, w: World, line: &[u8], rx: &mut [u8], out: &mut [u8]) -> PPPoS {
-    let c = w.call;
+fn consume(link: PPPoS, c: Call, line: &[u8], rx: &mut [u8], out: &mut [u8]) -> PPPoS {
     let n = lent(rx, c.a);
     let r = link.consume(given(line, c.b_at, c.b), &mut rx[0..n]);
-    consumed(r, c.at, &rx[0..n], w.rx_fill, out)
+    consumed(r, c.at, &rx[0..n], c.rx_fill, out)
 }
 
 // Its name in `show::name`, and up to two numbers.
@@ -100,27 +99,25 @@ fn action_of(a: PPPoSAction) -> Action {
 }
 
 // What a poll says, and the buffers that it was lent.
-fn told(a: Action, w: World, tx: &[u8], rx: &[u8], out: &mut [u8]) {
-    let c = w.call;
+fn told(a: Action, c: Call, tx: &[u8], rx: &[u8], out: &mut [u8]) {
     let at = say(out, c.at, b"$** tx=", &[a.name, a.a, a.b]);
-    let at = buffer(out, at, tx, w.tx_fill);
+    let at = buffer(out, at, tx, c.tx_fill);
     let at = text(out, at, b" rx=");
-    let at = buffer(out, at, rx, w.rx_fill);
+    let at = buffer(out, at, rx, c.rx_fill);
     ended(out, at);
 }
 
-fn polled(link: PPPoS, w: World, tx: &mut [u8], rx: &mut [u8], out: &mut [u8]) -> PPPoS {
+fn polled(link: PPPoS, c: Call, tx: &mut [u8], rx: &mut [u8], out: &mut [u8]) -> PPPoS {
     let p = link.poll(tx, rx);
     let a = p.action;
-    told(action_of(a), w, tx, rx, out);
+    told(action_of(a), c, tx, rx, out);
     p.link
 }
 
-fn poll(link: PPPoS, w: World, tx: &mut [u8], rx: &mut [u8], out: &mut [u8]) -> PPPoS {
-    let c = w.call;
+fn poll(link: PPPoS, c: Call, tx: &mut [u8], rx: &mut [u8], out: &mut [u8]) -> PPPoS {
     let n = lent(tx, c.a);
     let m = lent(rx, c.b);
-    polled(link, w, &mut tx[0..n], &mut rx[0..m], out)
+    polled(link, c, &mut tx[0..n], &mut rx[0..m], out)
 }
 
 // A refused call's count is 0, and it is not shown.
@@ -131,12 +128,11 @@ fn sent(out: &mut [u8], at: usize, o: Outcome, count: usize) -> usize {
     }
 }
 
-fn send(link: PPPoS, w: World, src: &[u8], tx: &mut [u8], out: &mut [u8]) {
-    let c = w.call;
+fn send(link: PPPoS, c: Call, src: &[u8], tx: &mut [u8], out: &mut [u8]) {
     let s = link.send(src, tx);
     let o = s.outcome;
     let at = sent(out, c.at, o, s.count);
-    let at = buffer(out, at, tx, w.tx_fill);
+    let at = buffer(out, at, tx, c.tx_fill);
     ended(out, at);
 }
 
@@ -185,11 +181,10 @@ fn shown(link: PPPoS, c: Call, rx: &[u8], out: &mut [u8]) -> usize {
 }
 
 // The calls that leave the link as it is.
-fn told_of(link: PPPoS, w: World, line: &[u8], tx: &mut [u8], rx: &[u8], out: &mut [u8]) {
-    let c = w.call;
+fn told_of(link: PPPoS, c: Call, line: &[u8], tx: &mut [u8], rx: &[u8], out: &mut [u8]) {
     if c.number == 14 {
         let n = lent(tx, c.a);
-        send(link, w, given(line, c.b_at, c.b), &mut tx[0..n], out);
+        send(link, c, given(line, c.b_at, c.b), &mut tx[0..n], out);
         return;
     }
     let at = shown(link, c, rx, out);
@@ -222,10 +217,10 @@ pub(crate) fn linked(
     let k = c.number;
     match k {
         0 | 10 | 11 => anew(link, c, line, out),
-        12 => consume(link, w, line, rx, out),
-        13 => poll(link, w, tx, rx, out),
+        12 => consume(link, c, line, rx, out),
+        13 => poll(link, c, tx, rx, out),
         14..=17 => {
-            told_of(link, w, line, tx, rx, out);
+            told_of(link, c, line, tx, rx, out);
             link
         }
         _ => link,
