@@ -14,8 +14,6 @@ use crate::world::front;
 use crate::world::given;
 use crate::world::lent;
 use framing::frame_reader::Reading;
-use link::pppos::Changed;
-use link::pppos::Consumed;
 use link::pppos::PPPoS;
 use link::pppos::PPPoSAction;
 use link::pppos::ip_packet;
@@ -39,31 +37,39 @@ pub(crate) fn fresh() -> PPPoS {
     c.link
 }
 
-fn changed(c: Changed, at: usize, out: &mut [u8]) -> PPPoS {
-    let o = c.outcome;
+fn verdict(o: Outcome, at: usize, out: &mut [u8]) {
     let at = say(out, at, b"!", &[refusal(o)]);
     ended(out, at);
-    c.link
 }
 
 fn made(c: Call, line: &[u8], out: &mut [u8]) -> PPPoS {
     let name = given(line, c.a_at, c.a);
     let pass = given(line, c.b_at, c.b);
-    changed(PPPoS::new(name, pass, reading(c.c)), c.at, out)
+    let r = PPPoS::new(name, pass, reading(c.c));
+    let o = r.outcome;
+    verdict(o, c.at, out);
+    r.link
 }
 
-fn consumed(c: Consumed, at: usize, rx: &[u8], fill: u8, out: &mut [u8]) -> PPPoS {
-    let o = c.outcome;
-    let at = say(out, at, b"! # rx=", &[refusal(o), c.count]);
-    let at = buffer(out, at, rx, fill);
+fn opened(link: PPPoS, at: usize, out: &mut [u8]) -> PPPoS {
+    let r = link.open();
+    let o = r.outcome;
+    verdict(o, at, out);
+    r.link
+}
+
+fn consumed(o: Outcome, count: usize, c: Call, rx: &[u8], out: &mut [u8]) {
+    let at = say(out, c.at, b"! # rx=", &[refusal(o), count]);
+    let at = buffer(out, at, rx, c.rx_fill);
     ended(out, at);
-    c.link
 }
 
 fn consume(link: PPPoS, c: Call, line: &[u8], rx: &mut [u8], out: &mut [u8]) -> PPPoS {
     let n = lent(rx, c.a);
     let r = link.consume(given(line, c.b_at, c.b), &mut rx[0..n]);
-    consumed(r, c.at, &rx[0..n], c.rx_fill, out)
+    let o = r.outcome;
+    consumed(o, r.count, c, &rx[0..n], out);
+    r.link
 }
 
 // Its name in `show::name`, and up to two numbers.
@@ -189,10 +195,6 @@ fn told_of(link: PPPoS, c: Call, line: &[u8], tx: &mut [u8], rx: &[u8], out: &mu
     }
     let at = shown(link, c, rx, out);
     ended(out, at);
-}
-
-fn opened(link: PPPoS, at: usize, out: &mut [u8]) -> PPPoS {
-    changed(link.open(), at, out)
 }
 
 fn anew(link: PPPoS, c: Call, line: &[u8], out: &mut [u8]) -> PPPoS {
