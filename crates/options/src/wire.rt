@@ -99,13 +99,14 @@ impl Packet {
     pub fn push_all(self, d: &[u8]) -> Self
         ensures { λ r. ⌜ r ≡ pushedAll self (now (d .entry)) ⌝ }
     {
+        let n = self.len;
+        if 128 < n {
+            return self;
+        }
+        if 128 - n < d.len() {
+            return self;
+        }
         let mut p = self;
-        if 128 < p.len {
-            return p;
-        }
-        if 128 - p.len < d.len() {
-            return p;
-        }
         let mut i = 0;
         while i < d.len() {
             let at = p.len;

@@ -11,22 +11,19 @@ use Rattle.options.proofs.wire.Packet.push_all.Statement.{statement}
 use Rattle.options.proofs.wire.Packet.push_all.Tie as tie
 
 abbrev Inv-loop : tie.InvT-loop
-Inv-loop d p₀ i₀ p i =
+Inv-loop d n p₀ i₀ p i =
     (i ≤ length d)
     × (p .len ≡ p₀ .len + i)
     × (sets (p .bytes) (p₀ .len + i) (drop i d) ≡ sets (p₀ .bytes) (p₀ .len) d)
 
 abbrev μ-loop : tie.MeasureT-loop
-μ-loop d p₀ i₀ p i = length d - i
+μ-loop d n p₀ i₀ p i = length d - i
 
 returns : tie.Need-returns Inv-loop μ-loop
 unfolding pushedAll
 returns c =
     let a = c .before .args in
     rw (lt-leb (a .self .len + length (a .d .now)) 128 (omega arith)) refl
-
-sub-if2 : tie.Need-sub-if2 Inv-loop μ-loop
-sub-if2 c = omega arith
 
 returns-2 : tie.Need-returns-2 Inv-loop μ-loop
 unfolding pushedAll
@@ -74,7 +71,6 @@ push-all-spec =
     Inv-loop
     μ-loop
     returns
-    sub-if2
     returns-2
     loop-holds
     shared-slice-read-p
