@@ -1,4 +1,5 @@
 // Carries calls out, but for those of the link.
+use crate::call;
 use crate::call::Call;
 use crate::call::QUIET;
 use crate::call::call_of;
@@ -53,31 +54,30 @@ fn filled(mut w: World, c: Call, tx: &mut [u8], rx: &mut [u8]) -> World {
 
 fn buffers(w: World, c: Call, tx: &mut [u8], rx: &mut [u8], out: &mut [u8]) -> World {
     ok(out, c.at);
-    if c.number == 0 {
+    if c.number == call::RESET {
         return reset(w, tx, rx);
     }
     filled(w, c, tx, rx)
 }
 
-// By the numbers of `call::named`.
 fn plain(w: World, line: &[u8], tx: &mut [u8], rx: &mut [u8], out: &mut [u8]) -> World {
     let c = w.call;
     let k = c.number;
     match k {
-        0..=1 => buffers(w, c, tx, rx, out),
-        2 => {
+        call::RESET..=call::FILL => buffers(w, c, tx, rx, out),
+        call::CRC => {
             checked(c, line, out);
             w
         }
-        3..=6 => {
+        call::WNEW..=call::WFINISH => {
             let half = lent(tx, 4096);
             writer::run(w, line, &mut tx[half..], out)
         }
-        7..=9 => {
+        call::RNEW..=call::RRECEIVE => {
             let half = lent(rx, 4096);
             reader::run(w, line, &mut rx[half..], out)
         }
-        10..=18 => w,
+        call::NEW..=QUIET => w,
         _ => {
             bad(out);
             w

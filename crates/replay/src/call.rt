@@ -31,6 +31,43 @@ struct Arg {
     value: usize,
 }
 
+// The calls by their number in the list of `named`.
+pub(crate) const RESET: usize = 0;
+
+pub(crate) const FILL: usize = 1;
+
+pub(crate) const CRC: usize = 2;
+
+pub(crate) const WNEW: usize = 3;
+
+pub(crate) const WSTART: usize = 4;
+
+pub(crate) const WAPPEND: usize = 5;
+
+pub(crate) const WFINISH: usize = 6;
+
+pub(crate) const RNEW: usize = 7;
+
+pub(crate) const RCONSUME: usize = 8;
+
+pub(crate) const RRECEIVE: usize = 9;
+
+pub(crate) const NEW: usize = 10;
+
+pub(crate) const OPEN: usize = 11;
+
+pub(crate) const CONSUME: usize = 12;
+
+pub(crate) const POLL: usize = 13;
+
+pub(crate) const SEND: usize = 14;
+
+pub(crate) const PART: usize = 15;
+
+pub(crate) const STATUS: usize = 16;
+
+pub(crate) const DUMP: usize = 17;
+
 // An empty line or a comment is no call, and any number above is a bad line.
 pub(crate) const QUIET: usize = 18;
 

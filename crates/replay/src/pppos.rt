@@ -1,4 +1,5 @@
 // The link's calls.
+use crate::call;
 use crate::call::Call;
 use crate::dump::dump;
 use crate::reader::reading;
@@ -180,15 +181,15 @@ fn status(out: &mut [u8], at: usize, link: PPPoS) -> usize {
 fn shown(link: PPPoS, c: Call, rx: &[u8], out: &mut [u8]) -> usize {
     let k = c.number;
     match k {
-        15 => part(out, c.at, c.a, c.b, front(rx, c.c)),
-        16 => status(out, c.at, link),
+        call::PART => part(out, c.at, c.a, c.b, front(rx, c.c)),
+        call::STATUS => status(out, c.at, link),
         _ => dump(out, c.at, link),
     }
 }
 
 // The calls that leave the link as it is.
 fn told_of(link: PPPoS, c: Call, line: &[u8], tx: &mut [u8], rx: &[u8], out: &mut [u8]) {
-    if c.number == 14 {
+    if c.number == call::SEND {
         let n = lent(tx, c.a);
         send(link, c, given(line, c.b_at, c.b), &mut tx[0..n], out);
         return;
@@ -200,13 +201,12 @@ fn told_of(link: PPPoS, c: Call, line: &[u8], tx: &mut [u8], rx: &[u8], out: &mu
 fn anew(link: PPPoS, c: Call, line: &[u8], out: &mut [u8]) -> PPPoS {
     let k = c.number;
     match k {
-        0 => fresh(),
-        10 => made(c, line, out),
+        call::RESET => fresh(),
+        call::NEW => made(c, line, out),
         _ => opened(link, c.at, out),
     }
 }
 
-// By the numbers of `call::named`.
 pub(crate) fn linked(
     link: PPPoS,
     w: World,
@@ -218,10 +218,10 @@ pub(crate) fn linked(
     let c = w.call;
     let k = c.number;
     match k {
-        0 | 10 | 11 => anew(link, c, line, out),
-        12 => consume(link, c, line, rx, out),
-        13 => poll(link, c, tx, rx, out),
-        14..=17 => {
+        call::RESET | call::NEW | call::OPEN => anew(link, c, line, out),
+        call::CONSUME => consume(link, c, line, rx, out),
+        call::POLL => poll(link, c, tx, rx, out),
+        call::SEND..=call::DUMP => {
             told_of(link, c, line, tx, rx, out);
             link
         }

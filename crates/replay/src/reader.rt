@@ -1,4 +1,5 @@
 // The reader's calls.
+use crate::call;
 use crate::show::buffer;
 use crate::show::ended;
 use crate::show::ok;
@@ -104,8 +105,8 @@ pub(crate) fn run(w: World, line: &[u8], buf: &mut [u8], out: &mut [u8]) -> Worl
     let c = w.call;
     let k = c.number;
     match k {
-        7 => made(w, buf, out),
-        8 => {
+        call::RNEW => made(w, buf, out),
+        call::RCONSUME => {
             let n = lent(buf, w.reader_room);
             consume(w, given(line, c.a_at, c.a), &mut buf[0..n], out)
         }

@@ -1,4 +1,5 @@
 // The writer's calls.
+use crate::call;
 use crate::show::buffer;
 use crate::show::ended;
 use crate::show::ok;
@@ -30,8 +31,8 @@ fn made(mut w: World, buf: &mut [u8], out: &mut [u8]) -> World {
 
 fn step(writer: FrameWriter, k: usize, src: &[u8], buf: &mut [u8]) -> Wrote {
     match k {
-        4 => writer.start(buf),
-        5 => writer.append(buf, src),
+        call::WSTART => writer.start(buf),
+        call::WAPPEND => writer.append(buf, src),
         _ => writer.finish(buf),
     }
 }
@@ -62,7 +63,7 @@ fn stepped(mut w: World, src: &[u8], buf: &mut [u8], out: &mut [u8]) -> World {
 
 pub(crate) fn run(w: World, line: &[u8], buf: &mut [u8], out: &mut [u8]) -> World {
     let c = w.call;
-    if c.number == 3 {
+    if c.number == call::WNEW {
         return made(w, buf, out);
     }
     let n = lent(buf, w.writer_room);
