@@ -64,7 +64,7 @@ fn replies_len(rs: Replies) -> usize
     reply_len(0 < n, a) + reply_len(1 < n, b) + reply_len(2 < n, c)
 }
 
-// Whether the frames of all replies take at most `room` bytes. Where it is always enough their lengths are not computed.
+// Whether the frames of all replies take at most `room` bytes; 795 are always enough, so that then none is measured.
 pub(crate) fn fits(room: usize, rs: Replies) -> bool
     requires { ⌜ Short rs ⌝ }
     ensures { λ r. ⌜ r ≡ leb (length (replies rs)) room ⌝ }

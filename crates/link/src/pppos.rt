@@ -5,7 +5,7 @@ ghost use lib.ListN.{length, take, drop};
 ghost use Rattle.framing.specs.Reader.{freshReader};
 ghost use Rattle.phases.specs.Phases.{openOf, newOf, statusOf};
 ghost use Rattle.link.specs.Frames.{Short};
-ghost use Rattle.link.specs.Link.{linkOf, outcomeOf, framingOutcome, Changes, Consumes, declined, echoedIn, asPoll, writtenAs, replied, isIp, packetPoll, pollLink, Polls, Sends, partOf};
+ghost use Rattle.link.specs.Link.{linkOf, outcomeOf, framingOutcome, Changes, Consumes, echoedIn, asPoll, writtenAs, replied, isIp, packetPoll, pollLink, Polls, Sends, partOf};
 use crate::frames::fits;
 use crate::frames::put_replies;
 use crate::refusal::Outcome;
@@ -242,7 +242,7 @@ impl PPPoS {
         match g {
             Got::Nothing => {
                 let p = self.ppp;
-                // A phase step that would do nothing is not taken.
+                // Most polls find nothing to do: they are spared the copies of a step.
                 if p.rests() {
                     return Polled {
                         action: PPPoSAction::Idle,

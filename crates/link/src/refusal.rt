@@ -1,4 +1,4 @@
-// Why a call on the link is refused: a cause of framing's or negotiation's, or one of the link's own.
+// Why a call on the link is refused: a cause of framing's or of options', or one of the link's own.
 ghost use mathlib.Core.Path.{_≡_};
 ghost use Rattle.link.specs.Refusal.{numberOf};
 

@@ -17,10 +17,9 @@ use Rattle.options.specs.declared.refusal.Refusal.the-variants.{EchoEmpty, Repl
 use Rattle.negotiation.specs.declared.states.State.{State}
 use Rattle.options.specs.declared.wire.Packet.{Packet}
 use Rattle.negotiation.specs.declared.replies.Replies.{Replies}
-use Rattle.options.specs.Wire.{pktOf, contentOf, packetOf}
+use Rattle.options.specs.Wire.{pktOf, contentOf, packetOf, lengthField}
 use Rattle.negotiation.specs.Replies.{repliesOf, added}
 use Rattle.options.specs.Proto.{protocolOf, ownOf}
-use Rattle.options.specs.Wire.{lengthField}
 use Rattle.negotiation.specs.Automaton.{ackResends, afterAck, afterNack, isOpened, handled, refusedTurn, withState, nextId, requestBytes, requested, requestedIn, ackOf, replyBytes, afterReply, reqWith, afterNacked, nackWith, termAckOf, ignoredTurn, echoBytes, echoOf, actOf, handleOf}
 use Rattle.options.proofs.Wires.{content-of}
 use Rattle.negotiation.proofs.Joining.{add-replies}

@@ -4,9 +4,8 @@ use mathlib.Core.List.{List, [], _∷_, _++_}
 use Prim.Native.Nat.{ℕ, _+_, _-_}
 use lib.Dec.{ltb, leb, eqb}
 use lib.ListN.{length, take, drop, getD, replicate}
-use Rattle.options.specs.Wire.{packetOf}
+use Rattle.options.specs.Wire.{packetOf, lengthField}
 use Rattle.negotiation.specs.Replies.{repliesOf}
-use Rattle.options.specs.Wire.{lengthField}
 use Rattle.negotiation.specs.Automaton.{nextId}
 use Rattle.options.specs.declared.refusal.Refusal.the-variants.{PapPast}
 use Rattle.options.specs.declared.refusal.Outcome.{Outcome}

@@ -5,7 +5,7 @@ use mathlib.Core.Path.{_≡_, refl, ap, sym, _∙_}
 use mathlib.Core.List.{List, [], _++_, append-assoc, append-nil}
 use native.Mathlib.Omega.{arith}
 use borrow.Author.Tests.{le-leb}
-use lib.ListN.{length, take, replicate, length-append, length-take, length-replicate}
+use lib.ListN.{length, replicate, length-append, length-take, length-replicate}
 use lib.Seq.{take-append-seam, drop-append-add, sets-eq}
 use Rattle.laws.proofs.Lists.{drop-replicate}
 use Rattle.options.specs.declared.wire.Packet.{Packet}

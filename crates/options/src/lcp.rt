@@ -1,7 +1,6 @@
 // The link control protocol's options (RFC 1661, and RFC 1662 for the map).
 ghost use mathlib.Core.Path.{_≡_};
 ghost use Prim.Native.Nat.{_+_, _≤_};
-ghost use lib.ListN.{length};
 ghost use Rattle.laws.specs.Same.{same};
 ghost use Rattle.options.specs.Wire.{Tidy, Pushed};
 ghost use Rattle.options.specs.Lcp.{freshLcp, startLcp, judgeLcp, ownLcp, lcpNacked};

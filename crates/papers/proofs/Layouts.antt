@@ -12,9 +12,8 @@ use Rattle.negotiation.specs.declared.pap.Pap.{Pap}
 use Rattle.options.specs.declared.proto.Proto.{Proto}
 use Rattle.papers.specs.Rfc1334.{Request}
 use Rattle.papers.specs.Rfc1661.{Encapsulated, Packet}
-use Rattle.options.specs.Wire.{packetOf, protocolIn}
+use Rattle.options.specs.Wire.{packetOf, protocolIn, lengthField}
 use Rattle.options.specs.Proto.{protocolOf}
-use Rattle.options.specs.Wire.{lengthField}
 use Rattle.negotiation.specs.Automaton.{nextId, echoBytes}
 use Rattle.negotiation.specs.Pap.{nameOf, passwordOf, credentialBytes, papBytes}
 use Rattle.negotiation.proofs.Paps.{credentials-short}

@@ -217,7 +217,7 @@ impl Ppp {
         }
     }
 
-    // Whether a phase step would change nothing and send nothing.
+    // True only where a phase step would change nothing and send nothing.
     pub fn rests(self) -> bool
         ensures { λ r. ⌜ r ≡ restsOf self ⌝ }
     {

@@ -9,8 +9,8 @@ use crate::word::number;
 use crate::word::part;
 use crate::word::which;
 
-// A call by its number in the list of `named`, where its answer goes on behind the name, and the values of the words behind its name. The value of bytes is their count, and
-// they stand in the line where their word began. The fill bytes are those of the world.
+// A call's number, where its answer goes on, and its words' values: for bytes their count, and where in the line they begin.
+// The fill bytes are those of the world, which the link's calls do not get.
 pub(crate) struct Call {
     pub(crate) number: usize,
     pub(crate) at: usize,
@@ -85,8 +85,8 @@ fn named(name: &[u8]) -> usize {
     )
 }
 
-// The kind of the word at a place behind the name, four for each call: - none, w a buffer's name, n a length, 2 4 8 so many hex
-// digits, b bytes, s a reading, and for a comment any word.
+// The kind of the word at a place behind the name, four for each call: - none, w a buffer's name, n a length, 2 two hex digits,
+// 4 and 8 up to so many, b bytes, s a reading, * any word, as in a comment and a line that is bad already.
 fn kind(call: usize, place: usize) -> u8 {
     let kinds = b"----w2--4b--n8------b-------ns--b-------bbs-----nb--nn--nb--nnn---------****";
     if call <= QUIET {

@@ -108,7 +108,7 @@ fn negotiated(out: &mut [u8], at: usize, p: Ppp) -> usize {
     ipv4cp(out, at, i)
 }
 
-// The phase before what is negotiated, and the password's state behind it.
+// The phase before what is negotiated, and PAP's state behind it.
 fn whole(out: &mut [u8], at: usize, p: Ppp) -> usize {
     let f = p.phase;
     let a = p.pap;

@@ -16,6 +16,7 @@ use framing::frame_reader::Got;
 use framing::frame_reader::Reading;
 use framing::frame_reader::State;
 
+// The numbers are those of the names in `show::name`.
 fn state(s: State) -> usize {
     match s {
         State::Start => 11,
@@ -82,7 +83,6 @@ fn receive(mut w: World, out: &mut [u8]) -> World {
     w
 }
 
-// The value of the word `standard` is 0.
 pub(crate) fn reading(standard: usize) -> Reading {
     if standard == 0 {
         Reading::Standard

@@ -126,6 +126,7 @@ fn perhaps(out: &mut [u8], at: usize, n: usize) -> usize {
     number(out, at, n)
 }
 
+// `!` an outcome, `#` a number, `$` a name, `%` eight hex digits, `&` four, `*` a number if there is one; the rest as it is.
 fn mark(out: &mut [u8], at: usize, c: u8, n: usize) -> usize {
     match c {
         b'!' => verdict(out, at, n),

@@ -10,8 +10,7 @@ use framing::frame_reader::FrameReader;
 use framing::frame_reader::Reading;
 use framing::frame_writer::FrameWriter;
 
-// Writer and reader have each a buffer that is lent up to its room. The link has two, and each call says how much of them is lent.
-// The trailing bytes of a buffer are shown as a count where they are the fill byte.
+// The writer and the reader each have a buffer that is lent up to its room; fill bytes at a buffer's end are shown as their count.
 pub(crate) struct World {
     pub(crate) input: Input,
     pub(crate) call: Call,

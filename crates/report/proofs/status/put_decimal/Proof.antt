@@ -1,7 +1,6 @@
 use native.Mathlib.Omega.{arith}
 use borrow.Author.Tests.{lt-ltb, le-ltb}
 use Rattle.report.specs.Lines.{decimal}
-use Rattle.report.specs.Lines.{decimal}
 use borrow.Author.Needs.{needs}
 use Rattle.report.proofs.status.put_decimal.Statement.{statement}
 use Rattle.report.proofs.status.put_decimal.Tie as tie

@@ -1,6 +1,5 @@
 use Rattle.report.proofs.Writing.{joined}
 use borrow.Author.Needs.{needs}
-use Rattle.report.proofs.Writing.{joined}
 use Rattle.report.specs.Lines.{dotted}
 use Rattle.report.proofs.status.put_dotted.Statement.{statement}
 use Rattle.report.proofs.status.put_dotted.Tie as tie
