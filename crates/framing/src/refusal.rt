@@ -3,7 +3,7 @@ ghost use mathlib.Core.Path.{_≡_};
 ghost use Rattle.framing.specs.Refusal.{numberOf};
 
 pub enum Refusal {
-    // A unit does not fit into the lent buffer.
+    // What is to be written, a unit of a frame or text, does not fit into the lent buffer.
     BufferFull,
     // The lent buffer is under the length that the state keeps for it.
     BufferShort,

@@ -14,7 +14,7 @@ use Rattle.negotiation.proofs.StateTable.{is-closed}
 use Rattle.phases.specs.declared.ppp.Phase.{Phase}
 use Rattle.phases.specs.declared.ppp.Phase.the-variants.{Dead, Establish, Auth, Network, Open}
 use Rattle.phases.specs.declared.ppp.Ppp.{Ppp}
-use Rattle.phases.specs.Phases.{withPhase, withPap, withIpv4cp, stepTo, closesIpv4cp, closesPap, establishOf, authOf, networkOf, phaseOf, isPapClosed, restsIn, restsOf}
+use Rattle.phases.specs.Phases.{withPhase, withPap, withIpv4cp, stepTo, closesIpv4cp, closesPap, establishOf, authOf, networkOf, diesOf, phaseOf, isPapClosed, restsIn, restsOf}
 
 is-pap-closed : (s : PapState) → isPapClosed s ≡ true → s ≡ papState.Closed
 is-pap-closed papState.Closed e = refl
@@ -28,7 +28,7 @@ closes-pap : (p : Ppp) → isPapClosed (p .pap .state) ≡ true → closesPap p 
 closes-pap p e i = withPap p (withPapState (p .pap) (sym (is-pap-closed (p .pap .state) e) i))
 
 -- the phase is an argument of its own, to be taken by cases
-still-in : (f : Phase) (p : Ppp) → restsIn f (p .lcp .state) (p .pap .state) (p .ipv4cp .state) ≡ true → (isClosed (p .lcp .state) && not (p .opening)) ≡ false
+still-in : (f : Phase) (p : Ppp) → restsIn f (p .lcp .state) (p .pap .state) (p .ipv4cp .state) ≡ true → diesOf p ≡ false
     → phaseOf (withPhase p f) ≡ stepTo (withPhase p f) []
 unfolding phaseOf establishOf authOf networkOf
 still-in Dead p e a = rw a refl

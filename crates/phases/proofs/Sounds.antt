@@ -28,7 +28,7 @@ use Rattle.options.specs.Refusal.{isDone}
 use Rattle.options.specs.Wire.{protocolIn, lengthField}
 use Rattle.negotiation.specs.Automaton.{afterAcked, afterNotAcked, afterReq, afterAck, afterNack, afterTerm, isClosed, isOpened, Turn, requested, termAckOf, ackOf, reqOf, nackOf, ignoredTurn, echoOf, actOf, handleOf, rejectTurn, openedFsm}
 use Rattle.negotiation.specs.Pap.{fitsCredentials, isPapSent, isPapOpened, PapTurn, papRequested, papActOf, papHandleOf, openedPap}
-use Rattle.phases.specs.Phases.{freshWith, withPhase, withOpening, withLcp, lcpIn, ipv4cpIn, PppTurn, rejectOf, receivedOf, Step, stepTo, opensLcp, opensIpv4cp, opensPap, closesIpv4cp, closesPap, byAuth, establishOf, authOf, networkOf, settled, phaseOf, isPapClosed, restsOf, pollOf, turnOf, isDead, pppTurned, openOf, newOf}
+use Rattle.phases.specs.Phases.{freshWith, withPhase, withOpening, withLcp, lcpIn, ipv4cpIn, PppTurn, rejectOf, receivedOf, Step, stepTo, opensLcp, opensIpv4cp, opensPap, closesIpv4cp, closesPap, byAuth, establishOf, authOf, networkOf, diesOf, settled, phaseOf, isPapClosed, restsOf, pollOf, turnOf, isDead, pppTurned, openOf, newOf}
 use Rattle.phases.specs.Moves.{Calm}
 use Rattle.phases.specs.Sound.{isEstablish, Sound}
 use Rattle.negotiation.proofs.Proper.{proper-handle}
@@ -302,7 +302,7 @@ module _ (p q : Ppp) (h : Heard p q) where
 
 step-none : (f : Phase) (p : Ppp) → Sound (withPhase p f) → p .opening ≡ false → phaseOf (withPhase p f) ≡ stepTo (withPhase p f) []
 unfolding phaseOf restsOf
-step-none Dead p s o = cond-all (λ (r : Ppp). stepTo r [] ≡ stepTo (withPhase p Dead) []) (isClosed (p .lcp .state) && not (p .opening)) refl refl
+step-none Dead p s o = cond-all (λ (r : Ppp). stepTo r [] ≡ stepTo (withPhase p Dead) []) (diesOf p) refl refl
 step-none Establish p s o =
     let e = s .establish refl o in
     rests-still (withPhase p Establish) (rw (s .closed ∙ o, e .0, ap isPapClosed (e .2), ap isClosed (e .1)) refl)

@@ -186,8 +186,11 @@ byPhase Network p = networkOf p
 byPhase Open p = stepTo p []
 
 -- where LCP is Closed and is not being opened, the link is dead
+abbrev pub diesOf : Ppp → Bool
+diesOf p = isClosed (p .lcp .state) && not (p .opening)
+
 abbrev pub settled : Ppp → Ppp
-settled p = cond (isClosed (p .lcp .state) && not (p .opening)) (withPhase p Dead) p
+settled p = cond (diesOf p) (withPhase p Dead) p
 
 unfoldable pub phaseOf : Ppp → Step
 phaseOf p = stepTo (settled (byPhase (p .phase) p .ppp)) (byPhase (p .phase) p .sent)
@@ -207,7 +210,7 @@ restsIn Open l a i = true
 
 -- a step finds nothing to open or close, and the link does not die
 unfoldable pub restsOf : Ppp → Bool
-restsOf p = restsIn (p .phase) (p .lcp .state) (p .pap .state) (p .ipv4cp .state) && not (isClosed (p .lcp .state) && not (p .opening))
+restsOf p = restsIn (p .phase) (p .lcp .state) (p .pap .state) (p .ipv4cp .state) && not (diesOf p)
 
 -- ---- the calls
 

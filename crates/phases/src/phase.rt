@@ -1,9 +1,7 @@
 // One phase step: what it opens and closes, and at most one packet.
 ghost use mathlib.Core.Path.{_≡_};
-ghost use mathlib.Core.Bool.{not, _&&_};
 ghost use mathlib.Core.List.{[]};
-ghost use Rattle.negotiation.specs.Automaton.{isClosed};
-ghost use Rattle.phases.specs.Phases.{stepTo, opensLcp, opensIpv4cp, opensPap, closesIpv4cp, closesPap, establishOf, authOf, networkOf, byPhase, settled, phaseOf, steppedAs, isPapClosed, restsIn, restsOf};
+ghost use Rattle.phases.specs.Phases.{stepTo, opensLcp, opensIpv4cp, opensPap, closesIpv4cp, closesPap, establishOf, authOf, networkOf, byPhase, diesOf, settled, phaseOf, steppedAs, isPapClosed, restsIn, restsOf};
 use crate::ppp::Ipv4cpFsm;
 use crate::ppp::Phase;
 use crate::ppp::Ppp;
@@ -188,7 +186,7 @@ impl Ppp {
     }
 
     fn dies(self) -> bool
-        ensures { λ r. ⌜ r ≡ isClosed (self .lcp .state) && not (self .opening) ⌝ }
+        ensures { λ r. ⌜ r ≡ diesOf self ⌝ }
     {
         let a = self.lcp;
         let s = a.state;
