@@ -1,4 +1,5 @@
 pub mod Hearing
+pub mod Numbers
 pub mod OneAnswer
 pub mod Passing
 pub mod Polling

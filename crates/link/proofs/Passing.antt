@@ -1,6 +1,6 @@
--- What framing's answers come to as the link passes them on.
+-- What the answers of the crates below come to as the link passes them on.
 -- Assumes nothing.
-use mathlib.Core.Path.{_≡_, ap, sym, _∙_}
+use mathlib.Core.Path.{_≡_, refl, ap, sym, _∙_}
 use mathlib.Core.Bool.{cond}
 use mathlib.Core.List.{List}
 use Prim.Native.Nat.{ℕ}
@@ -13,10 +13,27 @@ use Rattle.framing.specs.declared.refusal.Refusal.the-variants.{BufferFull, Buf
 use Rattle.framing.specs.declared.refusal.Outcome as framed
 use Rattle.framing.specs.declared.frame_reader.FrameReader.{FrameReader}
 use Rattle.framing.proofs.OneAnswer.{outcomes-differ}
+use Rattle.options.specs.Refusal as refusals
+use Rattle.phases.specs.Phases.{PppTurn}
+use Rattle.options.specs.declared.refusal.Outcome as negotiation
 use Rattle.link.specs.Refusal.{outcomeNumber}
 use Rattle.link.specs.declared.refusal.Outcome.{Outcome}
 use Rattle.link.specs.declared.pppos.PPPoS.{PPPoS}
-use Rattle.link.specs.Link.{linkOf, heldBy, framingOutcome, Consumes, ipFrame, remoteMap, Sends}
+use Rattle.link.specs.Link.{linkOf, heldBy, outcomeOf, framingOutcome, Changes, Consumes, ipFrame, remoteMap, Sends}
+
+-- an outcome that is passed on keeps its number
+passed-number : (f : framed.Outcome) → outcomeNumber (framingOutcome f) ≡ framing.outcomeNumber f
+passed-number framed.the-variants.Done = refl
+passed-number (framed.the-variants.Refused why) = refl
+
+turned-number : (t : negotiation.Outcome) → outcomeNumber (outcomeOf t) ≡ refusals.outcomeNumber t
+turned-number negotiation.the-variants.Done = refl
+turned-number (negotiation.the-variants.Refused why) = refl
+
+pub changes-passed : {t : PppTurn} {r : FrameReader} {p : negotiation.Outcome} {o : Outcome} {l : PPPoS}
+    → o ≡ outcomeOf p → p ≡ t .outcome → l ≡ linkOf r (t .ppp) → Changes t r o l
+changes-passed {p = p} e f k =
+    record { number = ap outcomeNumber e ∙ turned-number p ∙ ap refusals.outcomeNumber f; outcome = e ∙ ap outcomeOf f; link = k }
 
 pub consumes-passed : {l : PPPoS} {rx bs : List ℕ} {f : framed.Outcome} {o : Outcome} {n : ℕ} {r : FrameReader} {rx′ : List ℕ}
     → reader.Consumes (heldBy l rx) bs f n r rx′ → o ≡ framingOutcome f → Consumes l rx bs o n (linkOf r (l .ppp)) rx′
@@ -24,6 +41,7 @@ consumes-passed {l} {rx} {bs} {f} h e =
     let t = reader.isShort (heldBy l rx) in
     let no = framed.the-variants.Refused BufferShort in
     record {
+      number = ap outcomeNumber e ∙ passed-number f ∙ h .number;
       outcome =
           e
           ∙ ap framingOutcome (outcomes-differ f (cond t no framed.the-variants.Done) (h .number ∙ sym (cond-ap framing.outcomeNumber t no framed.the-variants.Done)))
@@ -39,18 +57,10 @@ sends-passed {l} {pkt} {tx} {f} h e =
     let t = holds (remoteMap l) (ipFrame pkt) (length tx) in
     let no = framed.the-variants.Refused BufferFull in
     record {
+      number = ap outcomeNumber e ∙ passed-number f ∙ h .number;
       outcome =
           e
           ∙ ap framingOutcome (outcomes-differ f (cond t framed.the-variants.Done no) (h .number ∙ sym (cond-ap framing.outcomeNumber t framed.the-variants.Done no)))
           ∙ cond-ap framingOutcome t framed.the-variants.Done no;
       lays = h .lays;
     }
-
--- document 01's numbers: 3 for consume, 1 for send
-pub consumes-number : {l : PPPoS} {rx bs : List ℕ} {o : Outcome} {n : ℕ} {l′ : PPPoS} {rx′ : List ℕ}
-    → Consumes l rx bs o n l′ rx′ → outcomeNumber o ≡ cond (reader.isShort (heldBy l rx)) 3 0
-consumes-number {l} {rx} h = ap outcomeNumber (h .outcome) ∙ cond-ap outcomeNumber (reader.isShort (heldBy l rx)) _ _
-
-pub sends-number : {l : PPPoS} {pkt tx : List ℕ} {o : Outcome} {n : ℕ} {tx′ : List ℕ}
-    → Sends l pkt tx o n tx′ → outcomeNumber o ≡ cond (holds (remoteMap l) (ipFrame pkt) (length tx)) 0 1
-sends-number {l} {pkt} {tx} h = ap outcomeNumber (h .outcome) ∙ cond-ap outcomeNumber (holds (remoteMap l) (ipFrame pkt) (length tx)) _ _

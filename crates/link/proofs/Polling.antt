@@ -33,7 +33,7 @@ use Rattle.link.specs.declared.pppos.PPPoS.{PPPoS}
 use Rattle.link.specs.declared.pppos.PPPoSAction.{PPPoSAction}
 use Rattle.link.specs.declared.pppos.PPPoSAction.the-variants.{Idle, Received, Declined}
 use Rattle.link.specs.Frames.{frames, replies, Short}
-use Rattle.link.specs.Link.{linkOf, heldBy, Poll, declined, sent, echoedIn, byOutcome, answered, writtenAs, repliedBy, replied, isIp, packetPoll, pollLink, Polls}
+use Rattle.link.specs.Link.{linkOf, heldBy, Poll, declined, sent, echoedIn, byOutcome, answered, writtenAs, repliedBy, replied, isIp, packetPoll, pollLink, actionNumber, actionValues, Polls}
 use Rattle.link.proofs.Sending.{replies-frames, replies-short, turn-narrow, poll-narrow}
 
 abbrev pub polled : PPPoSAction → PPPoS → List ℕ → List ℕ → Poll
@@ -45,6 +45,8 @@ polled-as p q r s = cc
 pub polls-of : {a : PPPoSAction} {l : PPPoS} {tx rx : List ℕ} {p : Poll} → polled a l tx rx ≡ p → Polls p a l tx rx
 polls-of e =
     record {
+      number = ap (λ (x : Poll). actionNumber (x .action)) e;
+      values = ap (λ (x : Poll). actionValues (x .action)) e;
       action = ap (λ (x : Poll). x .action) e;
       link = ap (λ (x : Poll). x .link) e;
       transmit = ap (λ (x : Poll). x .tx) e;

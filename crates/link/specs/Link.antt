@@ -2,7 +2,8 @@
 use mathlib.Core.Path.{_≡_}
 use mathlib.Core.Bool.{Bool, cond, _&&_}
 use mathlib.Core.List.{List, [], _∷_, _++_}
-use Prim.Native.Nat.{ℕ, _-_}
+use Prim.Native.Nat.{ℕ, _+_, _-_}
+use denote.Ref.{RefT}
 use lib.Dec.{ltb, leb, eqb}
 use lib.ListN.{length, set, take, drop}
 use Rattle.framing.specs.Writer.{over, holds, Lays}
@@ -16,7 +17,8 @@ use Rattle.phases.specs.Phases.{PppTurn, pollOf, turnOf, openOf, newOf}
 use Rattle.phases.specs.declared.ppp.Ppp.{Ppp}
 use Rattle.phases.specs.declared.ppp.Turned.{Turned}
 use Rattle.options.specs.declared.refusal.Outcome as negotiation
-use Rattle.link.specs.Refusal.{numberOf}
+use Rattle.options.specs.Refusal as refusals
+use Rattle.link.specs.Refusal.{numberOf, valuesOf, outcomeNumber}
 use Rattle.link.specs.Frames.{frames, replies}
 use Rattle.link.specs.declared.refusal.Refusal.{Refusal}
 use Rattle.link.specs.declared.refusal.Refusal.the-variants.{Framing, Negotiation, FramesFull}
@@ -54,15 +56,17 @@ newLink name password k = linkOf (freshReader k) (newOf name password .ppp)
 abbrev pub openLink : PPPoS → PPPoS
 openLink l = linkOf (l .«frame_reader») (openOf (l .ppp) .ppp)
 
--- a call that changes the link: its outcome and the link
+-- a call that changes the link: its refusal number, its outcome and the link
 pub record Changes (t : PppTurn) (r : FrameReader) (o : Outcome) (l : PPPoS) : Type 0 where
+  pub number : outcomeNumber o ≡ refusals.outcomeNumber (t .outcome)
   pub outcome : o ≡ outcomeOf (t .outcome)
   pub link : l ≡ linkOf r (t .ppp)
 
 -- ---- consume
 
--- a call that is handed bs: its outcome (3 or done), its count, the link and the receive buffer
+-- a call that is handed bs: its refusal number, its outcome, its count, the link and the receive buffer
 pub record Consumes (l : PPPoS) (rx bs : List ℕ) (o : Outcome) (n : ℕ) (l′ : PPPoS) (rx′ : List ℕ) : Type 0 where
+  pub number : outcomeNumber o ≡ cond (isShort (heldBy l rx)) 3 0
   pub outcome : o ≡ cond (isShort (heldBy l rx)) (Refused (Framing framing.BufferShort)) Done
   pub count : n ≡ length bs - length (consumed (heldBy l rx) bs .left)
   pub link : l′ ≡ linkOf (consumed (heldBy l rx) bs .now .reader) (l .ppp)
@@ -141,17 +145,27 @@ pollLink l tx rx =
     (packetPoll l (fetched (l .«frame_reader»)) (l .«frame_reader» .len - 2) tx rx (packetOf (heldBy l rx))))
     (answered l (l .«frame_reader») (pollOf (l .ppp)) tx rx))
 
-pub record Polls (p : Poll) (a : PPPoSAction) (l : PPPoS) (tx rx : List ℕ) : Type 0 where
-  pub action : a ≡ p .action
-  pub link : l ≡ p .link
-  pub transmit : tx ≡ p .tx
-  pub receive : rx ≡ p .rx
-
 abbrev pub actionNumber : PPPoSAction → ℕ
 actionNumber Idle = 0
 actionNumber (Received from to) = 0
 actionNumber (Transmit n) = 0
 actionNumber (Declined r) = numberOf r
+
+-- the ends of a range, how many bytes are to be sent, or what a refusal tells beside its number
+abbrev pub actionValues : PPPoSAction → List ℕ
+actionValues Idle = []
+actionValues (Received from to) = from ∷ to ∷ []
+actionValues (Transmit n) = n ∷ []
+actionValues (Declined r) = valuesOf r
+
+-- a poll's refusal number and values, its action, the link and both buffers
+pub record Polls (p : Poll) (a : PPPoSAction) (l : PPPoS) (tx rx : List ℕ) : Type 0 where
+  pub number : actionNumber a ≡ actionNumber (p .action)
+  pub values : actionValues a ≡ actionValues (p .action)
+  pub action : a ≡ p .action
+  pub link : l ≡ p .link
+  pub transmit : tx ≡ p .tx
+  pub receive : rx ≡ p .rx
 
 -- how many bytes of the transmit buffer are to be sent
 abbrev pub transmitted : PPPoSAction → ℕ
@@ -169,12 +183,24 @@ ipFrame pkt = (0x00 ∷ 0x21 ∷ []) ++ pkt
 abbrev pub remoteMap : PPPoS → ℕ
 remoteMap l = l .ppp .lcp .proto .«asyncmap_remote»
 
+-- a send's refusal number, its outcome, its count and the transmit buffer
 pub record Sends (l : PPPoS) (pkt tx : List ℕ) (o : Outcome) (n : ℕ) (tx′ : List ℕ) : Type 0 where
+  pub number : outcomeNumber o ≡ cond (holds (remoteMap l) (ipFrame pkt) (length tx)) 0 1
   pub outcome : o ≡ cond (holds (remoteMap l) (ipFrame pkt) (length tx)) Done (Refused (Framing framing.BufferFull))
   pub lays : Lays (remoteMap l) (ipFrame pkt) tx n tx′
 
 -- ---- the IP packet
 
+-- the range does not run backwards or past the end
+abbrev pub isInside : List ℕ → ℕ → ℕ → Bool
+isInside rx from to = leb from to && leb to (length rx)
+
 -- the bytes of a range, or none if it runs backwards or past the end
 abbrev pub partOf : List ℕ → ℕ → ℕ → List ℕ
-partOf rx from to = cond (leb from to && leb to (length rx)) (take (to - from) (drop from rx)) []
+partOf rx from to = cond (isInside rx from to) (take (to - from) (drop from rx)) []
+
+-- a part of the lent buffer itself: its bytes, and that it lies there from the range's start on, or at the buffer's start
+pub record HandsOut (rx : RefT (List ℕ)) (from to : ℕ) (r : RefT (List ℕ)) : Type 0 where
+  pub bytes : r .now ≡ partOf (rx .now) from to
+  pub block : r .ptr .0 ≡ rx .ptr .0
+  pub offset : r .ptr .1 ≡ rx .ptr .1 + cond (isInside (rx .now) from to) from 0

@@ -1,5 +1,8 @@
 -- Document 01's refusal numbers, of all refusals that the link gives.
+use mathlib.Core.Bool.{Bool, _||_}
+use mathlib.Core.List.{List, []}
 use Prim.Native.Nat.{ℕ}
+use lib.Dec.{eqb}
 use Rattle.framing.specs.Refusal as framing
 use Rattle.options.specs.Refusal as negotiation
 use Rattle.link.specs.declared.refusal.Refusal.{Refusal}
@@ -11,6 +14,16 @@ abbrev pub numberOf : Refusal → ℕ
 numberOf (Framing r) = framing.numberOf r
 numberOf (Negotiation r) = negotiation.numberOf r
 numberOf FramesFull = 1
+
+-- what a refusal tells beside its number
+abbrev pub valuesOf : Refusal → List ℕ
+valuesOf (Framing r) = []
+valuesOf (Negotiation r) = negotiation.valuesOf r
+valuesOf FramesFull = []
+
+-- the numbers under which document 01's table has more than one cause: 1 units or frames, 5 a packet or a frame that is short, 6 three Lengths
+abbrev pub isShared : ℕ → Bool
+isShared n = eqb n 1 || (eqb n 5 || eqb n 6)
 
 -- 0 where nothing was refused
 abbrev pub outcomeNumber : Outcome → ℕ

@@ -5,7 +5,7 @@ ghost use lib.ListN.{length, take, drop};
 ghost use Rattle.framing.specs.Reader.{freshReader};
 ghost use Rattle.phases.specs.Phases.{openOf, newOf, statusOf};
 ghost use Rattle.link.specs.Frames.{Short};
-ghost use Rattle.link.specs.Link.{linkOf, outcomeOf, framingOutcome, Changes, Consumes, echoedIn, asPoll, writtenAs, replied, isIp, packetPoll, pollLink, Polls, Sends, partOf};
+ghost use Rattle.link.specs.Link.{linkOf, outcomeOf, framingOutcome, Changes, Consumes, echoedIn, asPoll, writtenAs, replied, isIp, packetPoll, pollLink, Polls, Sends, HandsOut};
 use crate::frames::fits;
 use crate::frames::put_replies;
 use crate::refusal::Outcome;
@@ -275,7 +275,7 @@ impl PPPoS {
 
 // The bytes of a range of the receive buffer, as `poll` answers it; none if the range runs backwards or past the end.
 pub fn ip_packet(rx: &[u8], from: usize, to: usize) -> &[u8]
-    ensures { λ r. ⌜ now r ≡ partOf (now (rx .entry)) from to ⌝ }
+    ensures { λ r. ⌜ HandsOut (rx .entry) from to r ⌝ }
 {
     if to < from {
         return &rx[0..0];

@@ -1,5 +1,6 @@
 -- Document 01's refusal numbers, of the refusals that negotiation gives.
 use mathlib.Core.Bool.{Bool, true, false}
+use mathlib.Core.List.{List, [], _∷_}
 use Prim.Native.Nat.{ℕ}
 use Rattle.options.specs.declared.refusal.Refusal.{Refusal}
 use Rattle.options.specs.declared.refusal.Refusal.the-variants.{NotDead, CredentialsLong, PacketShort, ConfigureShort, EchoEmpty, PapPast, OptionCut, OptionLong, OptionsMany, ReplyLong}
@@ -17,6 +18,19 @@ numberOf (OptionCut at) = 7
 numberOf OptionLong = 8
 numberOf OptionsMany = 9
 numberOf ReplyLong = 10
+
+-- what a refusal tells beside its number: 7 has the offset of the option
+abbrev pub valuesOf : Refusal → List ℕ
+valuesOf NotDead = []
+valuesOf CredentialsLong = []
+valuesOf PacketShort = []
+valuesOf ConfigureShort = []
+valuesOf EchoEmpty = []
+valuesOf PapPast = []
+valuesOf (OptionCut at) = at ∷ []
+valuesOf OptionLong = []
+valuesOf OptionsMany = []
+valuesOf ReplyLong = []
 
 -- 0 where nothing was refused
 abbrev pub outcomeNumber : Outcome → ℕ

@@ -25,7 +25,6 @@ use Rattle.phases.specs.declared.ppp.Phase.{Phase}
 use Rattle.phases.specs.declared.ppp.Phase.the-variants.{Dead, Establish, Auth, Network, Open}
 use Rattle.phases.specs.declared.ppp.Status.{Status}
 use Rattle.negotiation.proofs.Paps.{fits-sum}
-use Rattle.link.proofs.Passing.{consumes-number, sends-number}
 use Rattle.framing.specs.Refusal as framing
 use Rattle.framing.specs.declared.refusal.Outcome as framed
 use Rattle.link.specs.Refusal.{outcomeNumber}
@@ -46,8 +45,8 @@ pub new-first : (name password : List ℕ) (k : Reading) {o : Outcome} {l : PPPo
     → First (outcomeNumber o) l (newRows name password k)
 new-first name password k c =
     by-test (fitsCredentials (length name) (length password))
-    (λ e. inr ((λ h. omega (arith, fits-sum (length name) (length password) e)), ap outcomeNumber (c .outcome) ∙ rw e refl))
-    (λ e. inl (ap outcomeNumber (c .outcome) ∙ rw e refl, fits-not (length name) (length password) e, c .link ∙ rw e refl))
+    (λ e. inr ((λ h. omega (arith, fits-sum (length name) (length password) e)), c .number ∙ rw e refl))
+    (λ e. inl (c .number ∙ rw e refl, fits-not (length name) (length password) e, c .link ∙ rw e refl))
 
 -- ---- open
 
@@ -62,8 +61,8 @@ pub open-first : (l : PPPoS) {o : Outcome} {l′ : PPPoS} → Changes (openOf (l
     → First (outcomeNumber o) l′ (openRows l)
 open-first l c =
     by-test (isDead (l .ppp .phase))
-    (λ e. inr ((λ h. h (dead-is (l .ppp .phase) e)), ap outcomeNumber (c .outcome) ∙ rw e refl))
-    (λ e. inl (ap outcomeNumber (c .outcome) ∙ rw e refl, (λ d. true≢false (sym (ap isDead d) ∙ e)), c .link ∙ rw e refl))
+    (λ e. inr ((λ h. h (dead-is (l .ppp .phase) e)), c .number ∙ rw e refl))
+    (λ e. inl (c .number ∙ rw e refl, (λ d. true≢false (sym (ap isDead d) ∙ e)), c .link ∙ rw e refl))
 
 -- ---- consume
 
@@ -73,8 +72,8 @@ consume-first l rx bs c =
     by-test (isShort (heldBy l rx))
     (λ e. let h = ltb-true (length rx) (l .«frame_reader» .len) e in
     let s = consumed-short (heldBy l rx) bs h in
-    inl (consumes-number c ∙ rw e refl, h, (c .count ∙ rw (s, sub-self) refl, c .link ∙ rw s refl, c .bytes ∙ rw s refl)))
-    (λ e. inr ((λ h. omega (arith, ltb-false (length rx) (l .«frame_reader» .len) e)), consumes-number c ∙ rw e refl))
+    inl (c .number ∙ rw e refl, h, (c .count ∙ rw (s, sub-self) refl, c .link ∙ rw s refl, c .bytes ∙ rw s refl)))
+    (λ e. inr ((λ h. omega (arith, ltb-false (length rx) (l .«frame_reader» .len) e)), c .number ∙ rw e refl))
 
 -- ---- send
 
@@ -123,9 +122,9 @@ send-first l pkt tx c =
     let m = remoteMap l in
     let p = ipFrame pkt in
     by-test (holds m p (length tx))
-    (λ e. inr ((λ h. omega (arith, leb-true (length (frame m p)) (length tx) e)), sends-number c ∙ rw e refl))
+    (λ e. inr ((λ h. omega (arith, leb-true (length (frame m p)) (length tx) e)), c .number ∙ rw e refl))
     (λ e. inl (
-      sends-number c ∙ rw e refl,
+      c .number ∙ rw e refl,
       leb-false (length (frame m p)) (length tx) e,
       (c .lays .count ∙ rw e refl, rw (c .lays .bytes, e, frame-units m p) (fitted (unitsOf m p) tx)),
     ))
@@ -136,5 +135,5 @@ pub lines-first : (s : Status) (buf : List ℕ) {o : framed.Outcome} {n : ℕ} {
     → First (framing.outcomeNumber o) (record { count = n; bytes = buf′ }) (linesRows (linesOf s) buf)
 lines-first s buf c =
     by-test (leb (length (linesOf s)) (length buf))
-    (λ e. inr ((λ h. omega (arith, leb-true (length (linesOf s)) (length buf) e)), ap framing.outcomeNumber (c .outcome) ∙ rw e refl))
-    (λ e. inl (ap framing.outcomeNumber (c .outcome) ∙ rw e refl, leb-false (length (linesOf s)) (length buf) e, (c .count ∙ rw e refl, c .bytes ∙ rw e refl)))
+    (λ e. inr ((λ h. omega (arith, leb-true (length (linesOf s)) (length buf) e)), c .number ∙ rw e refl))
+    (λ e. inl (c .number ∙ rw e refl, leb-false (length (linesOf s)) (length buf) e, (c .count ∙ rw e refl, c .bytes ∙ rw e refl)))

@@ -113,14 +113,14 @@ lines-front s p = rw (p .ends, p .bytes, take-sets (linesOf s) (replicate 111 0)
 pub lines-refused : (s : Status) (buf : List ℕ) → length buf < length (linesOf s) → Shows s buf (Refused BufferFull) 0 buf
 lines-refused s buf h =
     let e = lt-leb (length (linesOf s)) (length buf) h in
-    record { outcome = rw e; count = rw e; bytes = rw e }
+    record { number = rw e; count = rw e; bytes = rw e }
 
 pub lines-shown : {text buf buf′ : List ℕ} {n end : ℕ} (s : Status) → text ≡ linesOf s → n ≡ length (linesOf s) → n ≤ length buf
     → Puts text buf 0 end buf′ → Shows s buf Done n buf′
 lines-shown {buf = buf} s f m h p =
     let k : length (linesOf s) ≤ length buf = omega arith in
     let e = le-leb (length (linesOf s)) (length buf) k in
-    record { outcome = rw e; count = rw e m; bytes = rw e (rw f at (p .bytes) ∙ sets-front (linesOf s) buf k) }
+    record { number = rw e; count = rw e m; bytes = rw e (rw f at (p .bytes) ∙ sets-front (linesOf s) buf k) }
 
 pub shown-within : {s : Status} {buf buf′ : List ℕ} {o : Outcome} {n : ℕ} → Shows s buf o n buf′ → n ≤ length buf
 shown-within {s} {buf} p =

@@ -13,9 +13,8 @@ use Rattle.phases.specs.declared.ppp.Phase.the-variants.{Dead, Establish, Auth,
 use Rattle.options.specs.declared.ipv4cp.Shown.{Shown}
 use Rattle.options.specs.declared.ipv4cp.Shown.the-variants.{Absent, At}
 use Rattle.phases.specs.declared.ppp.Status.{Status}
-use Rattle.framing.specs.declared.refusal.Refusal.the-variants.{BufferFull}
+use Rattle.framing.specs.Refusal.{outcomeNumber}
 use Rattle.framing.specs.declared.refusal.Outcome.{Outcome}
-use Rattle.framing.specs.declared.refusal.Outcome.the-variants.{Done, Refused}
 
 -- "dead", "establish", "auth", "network", "open"
 abbrev pub phaseName : Phase → List ℕ
@@ -91,8 +90,8 @@ pub record Puts (text buf : List ℕ) (at end : ℕ) (buf′ : List ℕ) : Type 
   pub ends : end ≡ at + length text
   pub bytes : buf′ ≡ sets buf at text
 
--- all lines at the front of a buffer, or refusal 1 and nothing written
+-- the refusal number, the count and the buffer: all lines at its front, or refusal 1 and nothing written
 pub record Shows (s : Status) (buf : List ℕ) (o : Outcome) (n : ℕ) (buf′ : List ℕ) : Type 0 where
-  pub outcome : o ≡ cond (leb (length (linesOf s)) (length buf)) Done (Refused BufferFull)
+  pub number : outcomeNumber o ≡ cond (leb (length (linesOf s)) (length buf)) 0 1
   pub count : n ≡ cond (leb (length (linesOf s)) (length buf)) (length (linesOf s)) 0
   pub bytes : buf′ ≡ cond (leb (length (linesOf s)) (length buf)) (over (linesOf s) buf) buf

@@ -1,5 +1,6 @@
-use mathlib.Core.Path.{ap, ap₂, _∙_}
-use Rattle.link.specs.Link.{linkOf, outcomeOf}
+use mathlib.Core.Path.{ap₂}
+use Rattle.link.specs.Link.{linkOf}
+use Rattle.link.proofs.Passing.{changes-passed}
 use borrow.Author.Needs.{needs}
 use Rattle.link.proofs.pppos.PPPoS.new.Statement.{statement}
 use Rattle.link.proofs.pppos.PPPoS.new.Tie as tie
@@ -16,7 +17,7 @@ new-requires-2 c κs = search needs
 returns : tie.Need-returns
 returns c =
     let n = c .before .before .before .new .ensures in
-    record { outcome = c .before .outcome-of .ensures ∙ ap outcomeOf (n .outcome); link = ap₂ linkOf (c .new2 .ensures) (n .ppp) }
+    changes-passed (c .before .outcome-of .ensures) (n .outcome) (ap₂ linkOf (c .new2 .ensures) (n .ppp))
 
 pub new-spec : {M : Type 1} → statement M
 new-spec = tie.close (tie.spec new-requires outcome-of-requires new-requires-2 returns)

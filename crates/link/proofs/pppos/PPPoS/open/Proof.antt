@@ -1,5 +1,6 @@
-use mathlib.Core.Path.{ap, _∙_}
-use Rattle.link.specs.Link.{linkOf, outcomeOf}
+use mathlib.Core.Path.{ap}
+use Rattle.link.specs.Link.{linkOf}
+use Rattle.link.proofs.Passing.{changes-passed}
 use borrow.Author.Needs.{needs}
 use Rattle.link.proofs.pppos.PPPoS.open.Statement.{statement}
 use Rattle.link.proofs.pppos.PPPoS.open.Tie as tie
@@ -13,7 +14,7 @@ outcome-of-requires c κs = search needs
 returns : tie.Need-returns
 returns c =
     let n = c .before .before .before .«open» .ensures in
-    record { outcome = c .outcome-of .ensures ∙ ap outcomeOf (n .outcome); link = ap (linkOf (c .before .before .before .before .before .args .self .«frame_reader»)) (n .ppp) }
+    changes-passed (c .outcome-of .ensures) (n .outcome) (ap (linkOf (c .before .before .before .before .before .args .self .«frame_reader»)) (n .ppp))
 
 pub open-spec : {M : Type 1} → statement M
 open-spec = tie.close (tie.spec open-requires outcome-of-requires returns)
