@@ -49,9 +49,9 @@ module _ {s : Held} (idle : Idle s) where
   waits e = λ i. held (record { state = e i; escape = idle .clear i; len = idle .empty i; reading = s .reader .reading }) (s .buf)
 
   -- a flag, from either state
-  pub flagged : step s 0x7E ≡ waiting (s .reader .reading) (s .buf)
+  pub flag-read : step s 0x7E ≡ waiting (s .reader .reading) (s .buf)
   unfolding step
-  flagged = ⊎-elim (λ e. ap (λ t. step t 0x7E) (starts e)) (λ e. ap (λ t. step t 0x7E) (waits e)) (idle .between)
+  flag-read = ⊎-elim (λ e. ap (λ t. step t 0x7E) (starts e)) (λ e. ap (λ t. step t 0x7E) (waits e)) (idle .between)
 
 -- ---- the bytes behind a flag
 
@@ -96,7 +96,7 @@ opened s w p i a =
       last = a .last;
       before = a .before;
       whole = ap (λ l. 0x7E ∷ l) (a .whole);
-      quiet = quiet-step step full (waiting (s .reader .reading) (s .buf)) (idle-empty i) (flagged i) (a .quiet);
+      quiet = quiet-step step full (waiting (s .reader .reading) (s .buf)) (idle-empty i) (flag-read i) (a .quiet);
       filled = a .filled;
       kept = a .kept;
       packet = a .packet;

@@ -1,4 +1,5 @@
 pub mod Arrives
+pub mod Asyncmap
 pub mod Clean
 pub mod Fcs
 pub mod Formula

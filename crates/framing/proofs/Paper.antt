@@ -12,22 +12,22 @@ use lib.ListN.{length, drop}
 use Rattle.laws.specs.Quiet.{Quiet, none}
 use Rattle.laws.proofs.Cases.{by-test, by-le}
 use Rattle.laws.proofs.Quiet.{quiet-step}
-use Rattle.framing.specs.Rfc1662.{unescaped, aborted}
+use Rattle.framing.specs.Rfc1662.{removed, unescaped, aborted}
 use Rattle.framing.specs.Reader.{isCrate, isGood, freshReader, Held, held, step, full}
 use Rattle.framing.specs.Heard.{Heard, heard}
 use Rattle.framing.specs.Arrives.{Idle, Arrives}
 use Rattle.framing.specs.Paper.{doubled, Between, Readable}
 use Rattle.framing.specs.declared.frame_reader.State.the-variants.{Address}
 use Rattle.framing.specs.declared.frame_reader.Reading.{Reading}
-use Rattle.framing.proofs.Unstuffing.{unescaped-bytes, control-length, fields-control}
+use Rattle.framing.proofs.Unstuffing.{removed-none, unescaped-bytes, control-length, fields-control}
 use Rattle.framing.proofs.Inside.{inside, start-quiet, loses, closes-bad}
 use Rattle.framing.proofs.Good.{Holds, good-holds}
-use Rattle.framing.proofs.Arrives.{idle-fresh, idle-waiting, waiting, waits, flagged, address, enters, lands, arrives-heard}
+use Rattle.framing.proofs.Arrives.{idle-fresh, idle-waiting, waiting, waits, flag-read, address, enters, lands, arrives-heard}
 use Rattle.framing.proofs.Heard.{heard-quiet}
 
 -- a packet is handed out only where the paper reads it, and it is the only one
-abbrev AsRead : ℕ → List ℕ → List ℕ → List (List ℕ) → Type 0
-AsRead room w p ps = Readable room w p × (ps ≡ [])
+abbrev AsRead : ℕ → ℕ → List ℕ → List ℕ → List (List ℕ) → Type 0
+AsRead m room w p ps = Readable m room w p × (ps ≡ [])
 
 -- ---- no packet
 
@@ -39,11 +39,14 @@ none-at : {A : Type 0} {x : List (List ℕ)} (p : List ℕ) (ps : List (List ℕ
 none-at p ps e f = let z : _≡_ {A = ℕ} 0 1 = cc in absurd (omega arith)
 
 no-frame : {s : Held} → Idle s → full (step s 0x7E) ≡ false
-no-frame i = ap full (flagged i)
+no-frame i = ap full (flag-read i)
 
 -- ---- behind the address
 
-module _ (k : Reading) (buf w : List ℕ) (ok : Between k (0xFF ∷ w)) where
+module _ (k : Reading) (m : ℕ) (buf w : List ℕ) (ok : Between k m (0xFF ∷ w)) where
+  unremoved : removed m (0xFF ∷ w) ≡ 0xFF ∷ w
+  unremoved = removed-none m (0xFF ∷ w) (ok .no-removal)
+
   noDouble : isCrate k && doubled false w ≡ false
   unfolding doubled
   noDouble = ok .no-double
@@ -53,29 +56,29 @@ module _ (k : Reading) (buf w : List ℕ) (ok : Between k (0xFF ∷ w)) where
   noAbort = ok .no-abort
 
   -- an address and a packet's fields
-  reads-on : (p : List ℕ) → Readable (length buf) (0xFF ∷ w) p → Arrives (waiting k buf) ((0xFF ∷ w) ++ (0x7E ∷ [])) p
+  reads-on : (p : List ℕ) → Readable m (length buf) (0xFF ∷ w) p → Arrives (waiting k buf) ((0xFF ∷ w) ++ (0x7E ∷ [])) p
   unfolding unescaped
-  reads-on p r = lands k buf w (ok .no-flag .1) noDouble noAbort p (ap (drop 1) (r .carries .read ∙ fields-control p)) (r .fits)
+  reads-on p r = lands k buf w (ok .no-flag .1) noDouble noAbort p (ap (drop 1) (rw unremoved at (r .carries .read) ∙ fields-control p)) (r .fits)
 
-  readable : (h : Holds (unescaped false w)) → length (unescaped false w) ≤ length buf → Readable (length buf) (0xFF ∷ w) (h .packet)
+  readable : (h : Holds (unescaped false w)) → length (unescaped false w) ≤ length buf → Readable m (length buf) (0xFF ∷ w) (h .packet)
   unfolding unescaped
   readable h fits =
       record {
         raw = refl;
-        carries = record { whole = ok .no-abort; read = ap (λ l. 0xFF ∷ l) (h .is) ∙ sym (fields-control (h .packet)) };
+        carries = record { whole = rw unremoved (ok .no-abort); read = rw unremoved (ap (λ l. 0xFF ∷ l) (h .is) ∙ sym (fields-control (h .packet))) };
         fits = omega (arith, control-length (h .packet), ap length (h .is));
       }
 
   heard-holds : (p : List ℕ) (ps : List (List ℕ)) → Holds (unescaped false w) → length (unescaped false w) ≤ length buf
-      → heard (waiting k buf) ((0xFF ∷ w) ++ (0x7E ∷ [])) .packets ≡ p ∷ ps → AsRead (length buf) (0xFF ∷ w) p ps
+      → heard (waiting k buf) ((0xFF ∷ w) ++ (0x7E ∷ [])) .packets ≡ p ∷ ps → AsRead m (length buf) (0xFF ∷ w) p ps
   heard-holds p ps h fits e =
       let r = readable h fits in
       let q : h .packet ∷ [] ≡ p ∷ ps = sym (ap (λ (x : Heard). x .packets) (arrives-heard (reads-on (h .packet) r))) ∙ e in
       let same : h .packet ≡ p = cc in
       let last : ps ≡ [] = cc in
-      (subst (Readable (length buf) (0xFF ∷ w)) same r, last)
+      (subst (Readable m (length buf) (0xFF ∷ w)) same r, last)
 
-  only-on : (p : List ℕ) (ps : List (List ℕ)) → heard (waiting k buf) ((0xFF ∷ w) ++ (0x7E ∷ [])) .packets ≡ p ∷ ps → AsRead (length buf) (0xFF ∷ w) p ps
+  only-on : (p : List ℕ) (ps : List (List ℕ)) → heard (waiting k buf) ((0xFF ∷ w) ++ (0x7E ∷ [])) .packets ≡ p ∷ ps → AsRead m (length buf) (0xFF ∷ w) p ps
   only-on p ps e =
       let l = unescaped false w in
       by-le (length l) (length buf)
@@ -89,36 +92,37 @@ module _ (k : Reading) (buf w : List ℕ) (ok : Between k (0xFF ∷ w)) where
 
 -- ---- any bytes behind a flag
 
-module _ (k : Reading) (buf : List ℕ) where
-  reads-at : (w p : List ℕ) → Between k w → Readable (length buf) w p → Arrives (waiting k buf) (w ++ (0x7E ∷ [])) p
+module _ (k : Reading) (m : ℕ) (buf : List ℕ) where
+  reads-at : (w p : List ℕ) → Between k m w → Readable m (length buf) w p → Arrives (waiting k buf) (w ++ (0x7E ∷ [])) p
   reads-at [] p ok r = absurd (omega (arith, r .raw))
   reads-at (b ∷ w) p ok r =
-      subst⁻¹ (λ x. Between k (x ∷ w) → Readable (length buf) (x ∷ w) p → Arrives (waiting k buf) ((x ∷ w) ++ (0x7E ∷ [])) p) (r .raw)
-      (λ o. reads-on k buf w o p) ok r
+      subst⁻¹ (λ x. Between k m (x ∷ w) → Readable m (length buf) (x ∷ w) p → Arrives (waiting k buf) ((x ∷ w) ++ (0x7E ∷ [])) p) (r .raw)
+      (λ o. reads-on k m buf w o p) ok r
 
   other : (b : ℕ) → (b ≡ 0x7E → ⊥) → eqb b 0xFF ≡ false → step (waiting k buf) b ≡ held (freshReader k) buf
   unfolding step
   other b n e = rw (e, ne-eqb b 0x7E n)
 
-  only-at : (w p : List ℕ) (ps : List (List ℕ)) → Between k w → heard (waiting k buf) (w ++ (0x7E ∷ [])) .packets ≡ p ∷ ps → AsRead (length buf) w p ps
+  only-at : (w p : List ℕ) (ps : List (List ℕ)) → Between k m w → heard (waiting k buf) (w ++ (0x7E ∷ [])) .packets ≡ p ∷ ps → AsRead m (length buf) w p ps
   only-at [] p ps ok e = none-at p ps (heard-none 0x7E (none refl) (no-frame (idle-waiting k buf))) e
   only-at (b ∷ w) p ps ok e =
       by-test (eqb b 0xFF)
       (λ q.
-      subst⁻¹ (λ x. Between k (x ∷ w) → heard (waiting k buf) ((x ∷ w) ++ (0x7E ∷ [])) .packets ≡ p ∷ ps → AsRead (length buf) (x ∷ w) p ps) (eqb-true b 0xFF q)
-      (λ o. only-on k buf w o p ps) ok e)
+      subst⁻¹ (λ x. Between k m (x ∷ w) → heard (waiting k buf) ((x ∷ w) ++ (0x7E ∷ [])) .packets ≡ p ∷ ps → AsRead m (length buf) (x ∷ w) p ps) (eqb-true b 0xFF q)
+      (λ o. only-on k m buf w o p ps) ok e)
       (λ q.
       none-at p ps
       (heard-none 0x7E (quiet-step step full (held (freshReader k) buf) refl (other b (ok .no-flag .0) q) (start-quiet k buf w (ok .no-flag .1))) (no-frame (idle-fresh k buf))) e)
 
--- A reader stands behind a flag with nothing kept, and w and a closing flag follow. (w has no flag in it, no escape right
--- before the closing flag, and in crate reading no 7D right behind 7D.)
-module _ (s : Held) (w : List ℕ) (idle : Idle s) (behindFlag : s .reader .state ≡ Address) (ok : Between (s .reader .reading) w) where
-  -- Where RFC 1662 reads a valid frame with the information p off w, address unescaped, and the buffer has room for it, p is handed out.
-  pub reads : (p : List ℕ) → Readable (length (s .buf)) w p → Arrives s (w ++ (0x7E ∷ [])) p
-  reads p r = subst⁻¹ (λ t. Arrives t (w ++ (0x7E ∷ [])) p) (waits idle behindFlag) (reads-at (s .reader .reading) (s .buf) w p ok r)
+-- A reader stands behind a flag with nothing kept, and w and a closing flag follow. (w has no flag in it, no byte that the map m
+-- flags, no escape right before the closing flag, and in crate reading no 7D right behind 7D.)
+module _ (s : Held) (m : ℕ) (w : List ℕ) (idle : Idle s) (behindFlag : s .reader .state ≡ Address) (ok : Between (s .reader .reading) m w) where
+  -- Where RFC 1662's receiver with the map m reads a valid frame with the information p off w, address unescaped, and the buffer
+  -- has room for it, p is handed out.
+  pub reads : (p : List ℕ) → Readable m (length (s .buf)) w p → Arrives s (w ++ (0x7E ∷ [])) p
+  reads p r = subst⁻¹ (λ t. Arrives t (w ++ (0x7E ∷ [])) p) (waits idle behindFlag) (reads-at (s .reader .reading) m (s .buf) w p ok r)
 
   -- And a packet is handed out nowhere else, and never two.
-  pub read-only : (p : List ℕ) (ps : List (List ℕ)) → heard s (w ++ (0x7E ∷ [])) .packets ≡ p ∷ ps → Readable (length (s .buf)) w p × (ps ≡ [])
+  pub read-only : (p : List ℕ) (ps : List (List ℕ)) → heard s (w ++ (0x7E ∷ [])) .packets ≡ p ∷ ps → Readable m (length (s .buf)) w p × (ps ≡ [])
   read-only p ps e =
-      only-at (s .reader .reading) (s .buf) w p ps ok (subst (λ t. heard t (w ++ (0x7E ∷ [])) .packets ≡ p ∷ ps) (waits idle behindFlag) e)
+      only-at (s .reader .reading) m (s .buf) w p ps ok (subst (λ t. heard t (w ++ (0x7E ∷ [])) .packets ≡ p ∷ ps) (waits idle behindFlag) e)

@@ -1,19 +1,19 @@
 -- What a receiver reads off stuffed bytes, and the shape and the size of a frame.
 -- Assumes nothing.
 use mathlib.Core.Path.{_≡_, refl, ap}
-use mathlib.Core.Bool.{Bool, true, false}
+use mathlib.Core.Bool.{Bool, true, false, and-false}
 use mathlib.Core.List.{List, [], _∷_, _++_}
-use Prim.Native.Nat.{ℕ, _+_, _*_, _≤_}
+use Prim.Native.Nat.{ℕ, zero, suc, _+_, _*_, _≤_}
 use native.Mathlib.Omega.{arith}
 use borrow.Author.Tests.{ne-eqb}
-use lib.Dec.{eqb}
+use lib.Dec.{eqb, ltb}
 use lib.ListN.{length, length-append}
 use lib.Bits.{bitXor, xor-lt}
 use Rattle.laws.specs.Each.{Bytes, Without}
 use Rattle.laws.proofs.Cases.{by-test, cond-all}
 use Rattle.laws.proofs.Xor.{xor-back}
-use Rattle.framing.specs.Rfc1662.{fcsBits, fcs, checkBytes, fields, escaped, unit, stuffed, frame, unescaped, aborted, Carries}
-use Rattle.framing.specs.Paper.{doubled}
+use Rattle.framing.specs.Rfc1662.{fcsBits, fcs, checkBytes, fields, escaped, unit, stuffed, frame, bit, flagged, removed, unescaped, aborted}
+use Rattle.framing.specs.Paper.{doubled, Unflagged}
 use Rattle.framing.proofs.Stuffing.{unit-escaped, unit-plain, mark-escaped, flipped-plain, stuffed-narrow, stuffed-without}
 
 -- a unit is an escape and a byte that is none, or one byte that is none
@@ -57,6 +57,27 @@ unfolding stuffed doubled
 doubled-stuffed m [] = refl
 doubled-stuffed m (b ∷ bs) = rw (doubled-unit m b (stuffed m bs), doubled-stuffed m bs)
 
+-- ---- what a receiver removes
+
+pub removed-none : (m : ℕ) (w : List ℕ) → Unflagged m w → removed m w ≡ w
+unfolding removed
+removed-none m [] n = refl
+removed-none m (b ∷ w) n = rw (n .0, removed-none m w (n .1))
+
+bit-zero : (b : ℕ) → bit b 0 ≡ 0
+unfolding bit
+bit-zero zero = refl
+bit-zero (suc b) = bit-zero b
+
+-- map 0 flags nothing, so that `Paper` says with it what holds of every w: our reader has no map
+pub unflagged-zero : (w : List ℕ) → Unflagged 0 w
+unfolding flagged
+unflagged-zero [] = tt
+unflagged-zero (b ∷ w) = (rw (bit-zero b) (and-false (ltb b 0x20)), unflagged-zero w)
+
+pub removed-zero : (w : List ℕ) → removed 0 w ≡ w
+removed-zero w = removed-none 0 w (unflagged-zero w)
+
 -- ---- what is read off bytes is bytes
 
 pub unescaped-bytes : (e : Bool) (w : List ℕ) → Bytes w → Bytes (unescaped e w)
@@ -82,10 +103,6 @@ control-length p = omega (arith, length-append p (checkBytes (fcs 0x00FF (0x03 �
 pub stuffed-fields : (m : ℕ) (p : List ℕ) → stuffed m (fields p) ≡ 0xFF ∷ stuffed m (controlOn p)
 unfolding stuffed unit escaped
 stuffed-fields m p = ap (stuffed m) (fields-control p)
-
--- on paper, what is sent is what is received
-pub carried : (m : ℕ) (p : List ℕ) → Carries (stuffed m (fields p)) p
-carried m p = record { whole = aborted-stuffed m (fields p); read = unescaped-stuffed m (fields p) }
 
 -- a flag stands first and last, and nowhere between
 pub frame-flags : (m : ℕ) (p : List ℕ) → (body : List ℕ) × (frame m p ≡ 0x7E ∷ (body ++ (0x7E ∷ []))) × Without 0x7E body

@@ -52,7 +52,21 @@ stuffed m (b ∷ bs) = unit m b ++ stuffed m bs
 unfoldable pub frame : ℕ → List ℕ → List ℕ
 frame m p = 0x7E ∷ (stuffed m (fields p) ++ (0x7E ∷ []))
 
--- Section 4.2: a receiver takes each escape away and the byte behind it xor 20; the Bool says whether an escape is open
+-- Section 7.1: the bits of a map are numbered from the least significant on, from 0
+unfoldable pub bit : ℕ → ℕ → ℕ
+bit zero m = m % 2
+bit (suc b) m = bit b (m / 2)
+
+-- Sections 4.2 and 7.1: a byte below 20 that a receiver's map flags: the bit of its number is set
+unfoldable pub flagged : ℕ → ℕ → Bool
+flagged m b = ltb b 0x20 && eqb (bit b m) 1
+
+-- Section 4.2: a receiver first removes those, since the line may have inserted them
+unfoldable pub removed : ℕ → List ℕ → List ℕ
+removed m [] = []
+removed m (b ∷ w) = cond (flagged m b) (removed m w) (b ∷ removed m w)
+
+-- Section 4.2: then it takes each escape away and the byte behind it xor 20; the Bool says whether an escape is open
 unfoldable pub unescaped : Bool → List ℕ → List ℕ
 unescaped o [] = []
 unescaped o (b ∷ w) = cond o (bitXor b 0x20 ∷ unescaped false w) (cond (eqb b 0x7D) (unescaped true w) (b ∷ unescaped false w))
@@ -62,7 +76,7 @@ unfoldable pub aborted : Bool → List ℕ → Bool
 aborted o [] = o
 aborted o (b ∷ w) = aborted (not o && eqb b 0x7D) w
 
--- the bytes w between two flags are a valid frame with the information p
-pub record Carries (w p : List ℕ) : Type 0 where
-  pub whole : aborted false w ≡ false
-  pub read : unescaped false w ≡ fields p
+-- to a receiver with the map m the bytes w between two flags are a valid frame with the information p
+pub record Carries (m : ℕ) (w p : List ℕ) : Type 0 where
+  pub whole : aborted false (removed m w) ≡ false
+  pub read : unescaped false (removed m w) ≡ fields p
