@@ -1,12 +1,12 @@
 -- What is sent with a map has no byte that the map flags: RFC 1662's receiver with that map removes none and reads the packet.
 -- Assumes nothing.
 use mathlib.Core.Path.{_≡_, ap, sym, subst, _∙_}
-use mathlib.Core.Bool.{true, false, and-false}
+use mathlib.Core.Bool.{true, false, _||_, or-false, true≢false}
 use mathlib.Core.List.{List, [], _∷_, _++_}
 use Prim.Native.Nat.{ℕ, zero, suc, _/_, _%_, _^_, _≤_, _-_}
 use native.Mathlib.Nat.{div-one, div-div-eq-div-mul, pow-succ'}
 use native.Mathlib.Omega.{arith}
-use borrow.Author.Tests.{lt-ltb, le-ltb}
+use borrow.Author.Tests.{lt-ltb, le-ltb, ne-eqb}
 use lib.Dec.{T, eqb, leb}
 use lib.ListN.{length}
 use lib.Bits.{bitXor}
@@ -32,12 +32,16 @@ high-unflagged : (m b : ℕ) → 0x20 ≤ b → flagged m b ≡ false
 unfolding flagged
 high-unflagged m b h = rw (le-ltb b 0x20 h)
 
+-- the sender escapes 7D, 7E and what the map flags, and nothing else
+pub escaped-flagged : (m b : ℕ) → escaped m b ≡ flagged m b || (eqb b 0x7D || eqb b 0x7E)
+unfolding escaped flagged
+escaped-flagged m b =
+    by-le 0x20 b (λ h. rw (le-ltb b 0x20 h))
+    (λ h. rw (lt-ltb b 0x20 h, bit-at b m, ne-eqb b 0x7D (λ q. omega arith), ne-eqb b 0x7E (λ q. omega arith)) (sym (or-false _)))
+
 -- a byte that goes out as it is
 plain-unflagged : (m b : ℕ) → escaped m b ≡ false → flagged m b ≡ false
-unfolding escaped flagged
-plain-unflagged m b e =
-    by-le 0x20 b (high-unflagged m b)
-    (λ h. let q : eqb (m / 2 ^ b % 2) 1 ≡ false = rw (lt-ltb b 0x20 h) at e in rw (bit-at b m, q, and-false))
+plain-unflagged m b e = by-test (flagged m b) (λ f. absurd (true≢false (rw f at (sym (escaped-flagged m b) ∙ e)))) (λ f. f)
 
 -- one that goes out behind an escape
 flipped-high : (m b : ℕ) → escaped m b ≡ true → 0x20 ≤ bitXor b 0x20
