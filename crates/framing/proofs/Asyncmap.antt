@@ -13,7 +13,7 @@ use lib.Bits.{bitXor}
 use Rattle.laws.specs.Each.{Each}
 use Rattle.laws.proofs.Below.{below}
 use Rattle.laws.proofs.Cases.{by-le, by-test, cond-all}
-use Rattle.laws.proofs.Each.{each-append, each-right}
+use Rattle.laws.proofs.Each.{each-append, each-left, each-right}
 use Rattle.framing.specs.Rfc1662.{fields, escaped, unit, stuffed, frame, bit, flagged, Carries}
 use Rattle.framing.specs.Writer.{frameUnits, join, fit, holds, laid}
 use Rattle.framing.specs.Paper.{Unflagged}
@@ -85,10 +85,6 @@ pub carried-full : (n : ℕ) (p : List ℕ) → Carries n (stuffed 0xFFFF_FFFF (
 carried-full n = carried-within 0xFFFF_FFFF n (full-within n)
 
 -- ---- what is written where the frame does not fit
-
-each-left : {A : Type 0} (P : A → Type 0) (a b : List A) → Each P (a ++ b) → Each P a
-each-left P [] b p = tt
-each-left P (x ∷ a) b p = (p .0, each-left P a b (p .1))
 
 fit-each : (P : ℕ → Type 0) (us : List (List ℕ)) (room : ℕ) → Each P (join us) → Each P (fit room us)
 unfolding fit join

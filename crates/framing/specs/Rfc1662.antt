@@ -7,7 +7,7 @@ use Prim.Native.Nat.{ℕ, zero, suc, _/_, _%_, _^_}
 use lib.Dec.{eqb, ltb}
 use lib.Bits.{bitXor}
 
--- Appendix C.2: the generator x^16 + x^12 + x^5 + 1, its bits reversed
+-- Appendix C.1 (P): the generator x^16 + x^12 + x^5 + 1, its bits reversed
 abbrev pub fcsGenerator : ℕ
 fcsGenerator = 0x8408
 
