@@ -1,21 +1,50 @@
--- How many calls there are: each that is handed a byte takes one off a wire, and what both ends write is at most 684 bytes.
+-- Where it ends, and after how many calls: each that is handed a byte takes one off a wire, and what both ends write is at most 684 bytes.
 -- Assumes nothing.
 use mathlib.Core.Path.{_≡_, refl, sym, ap, _∙_}
+use mathlib.Core.Bool.{Bool}
 use mathlib.Core.List.{List, [], _∷_, _++_, append-nil}
 use mathlib.Core.Logic.{_⊎_, inl, inr, ⊎-elim}
 use Prim.Native.Nat.{ℕ, zero, suc, _+_, _*_, _≤_}
 use native.Mathlib.Omega.{arith}
 use lib.ListN.{length, length-append}
 use Rattle.laws.specs.Each.{Each}
+use Rattle.laws.proofs.Be.{be-round}
 use Rattle.framing.specs.Rfc1662.{frame}
 use Rattle.framing.proofs.Unstuffing.{frame-narrow}
-use Rattle.phases.specs.Moves.{Self, Small}
+use Rattle.phases.specs.Moves.{Self, Small, heard}
+use Rattle.phases.specs.declared.ppp.Ppp.{Ppp}
 use Rattle.link.specs.Frames.{everyByte, frames}
 use Rattle.meeting.specs.Calls.{End, Net, Run, start, atA, atB, steps}
-use Rattle.meeting.specs.Statement.{Finishes}
-use Rattle.meeting.proofs.Diamond.{whole}
+use Rattle.meeting.specs.Statement.{Wrote, Learned, Met, Finishes}
+use Rattle.meeting.proofs.Diamond.{ended, whole}
 use Rattle.meeting.proofs.Ways.{Way, along, Spent, spent}
 use Rattle.meeting.proofs.Frames.{Told, Both}
+use Rattle.meeting.proofs.Start.{self}
+
+-- ---- an end that met the other
+
+-- a u32 that was sent in four bytes comes back
+learned : {v was now : ℕ} (r : Bool) → now ≡ heard v r was → Learned v r was now
+learned {v} {was} {now} r e =
+    record {
+      offered = λ f h. e ∙ ap (λ (k : Bool). heard v k was) f ∙ be-round 4 v h;
+      unchanged = λ f. e ∙ ap (λ (k : Bool). heard v k was) f;
+    }
+
+pub wrote : {X Y : Self} {e : End} {w : List ℕ} → Told X Y e w → Wrote w
+wrote t = record { packets = t .packets; whole = t .whole; count = t .count }
+
+pub met : {x y e : End} {w : List ℕ} → Told (self x) (self y) e w → Met x y e w
+met {x} {y} t =
+    let s = t .settled in
+    record {
+      phase = ap (λ (p : Ppp). p .phase) (s .is);
+      lcp = ap (λ (p : Ppp). p .lcp .state) (s .is);
+      ipv4cp = ap (λ (p : Ppp). p .ipv4cp .state) (s .is);
+      map = learned (y .link .ppp .lcp .proto .«asyncmap_rej») (ap (λ (p : Ppp). p .lcp .proto .«asyncmap_remote») (s .is));
+      peer = learned (y .link .ppp .ipv4cp .proto .address .«is_rejected») (ap (λ (p : Ppp). p .ipv4cp .proto .«peer_address») (s .is) ∙ s .hears);
+      wrote = wrote t;
+    }
 
 -- ---- how much is written
 
@@ -55,17 +84,22 @@ none : (l : List ℕ) → length l ≤ 0 → l ≡ []
 none [] h = refl
 none (x ∷ l) h = absurd (omega arith)
 
-module _ {A B : Self} {z : Net} (tx : List ℕ) (room : 795 ≤ length tx) (w : Way (Both A B) z) (h : Spent 0 z) where
-  finish-in : (k : ℕ) {m : Net} (r : Run z m) → 684 ≤ steps r + k → Finishes z
+module _ {x y : End} {z : Net} (tx : List ℕ) (room : 795 ≤ length tx) (w : Way (Both (self x) (self y)) z) (h : Spent 0 z) where
+  finished : {m : Net} → Run z m → m .toA ≡ [] → m .toB ≡ [] → Finishes x y z
+  finished {m} r e f =
+      let q = ended (rw (e, f) at (along w r)) in
+      record { last = m; run = r; emptyA = e; emptyB = f; metA = met (q .0); metB = met (q .1) }
+
+  finish-in : (k : ℕ) {m : Net} (r : Run z m) → 684 ≤ steps r + k → Finishes x y z
   finish-in zero {m} r e =
       let paid = spent w h r in
       let most = written-narrow (along w r) in
-      record { last = m; run = r; emptyA = none (m .toA) (omega arith); emptyB = none (m .toB) (omega arith) }
+      finished r (none (m .toA) (omega arith)) (none (m .toB) (omega arith))
   finish-in (suc k) {m} r e =
       ⊎-elim
-      (λ (p : (m .toA ≡ []) × (m .toB ≡ [])). record { last = m; run = r; emptyA = p .0; emptyB = p .1 })
+      (λ (p : (m .toA ≡ []) × (m .toB ≡ [])). finished r (p .0) (p .1))
       (λ (t : More r). finish-in k (t .run) (omega (arith, t .one)))
       (more r tx room)
 
-  pub finish : Finishes z
+  pub finish : Finishes x y z
   finish = finish-in 684 start (omega arith)

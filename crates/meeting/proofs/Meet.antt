@@ -1,50 +1,24 @@
 -- Demand 3: two ends meet.
 -- Assumes nothing.
-use mathlib.Core.Path.{_≡_, refl, ap, _∙_}
-use mathlib.Core.Bool.{Bool, true}
+use mathlib.Core.Path.{refl}
+use mathlib.Core.Bool.{true}
 use mathlib.Core.List.{List, [], _∷_}
 use Prim.Native.Nat.{ℕ, _≤_, _<_}
 use native.Mathlib.Omega.{arith}
 use lib.ListN.{length}
-use Rattle.laws.proofs.Be.{be-round}
-use Rattle.phases.specs.Moves.{Self, heard}
-use Rattle.phases.specs.declared.ppp.Ppp.{Ppp}
 use Rattle.phases.proofs.Moves.{hears}
 use Rattle.link.proofs.Reached.{dead-closed}
 use Rattle.meeting.specs.Calls.{End, Net, flip, begun, oneUnlessEmpty, steps}
-use Rattle.meeting.specs.Statement.{Wrote, Learned, Met, Side, TwoEndsMeet}
+use Rattle.meeting.specs.Statement.{Side, TwoEndsMeet}
 use Rattle.meeting.proofs.Bytes.{hold}
 use Rattle.meeting.proofs.Diamond.{flipped, ended, whole}
 use Rattle.meeting.proofs.Ways.{Way, at-first, along, Spent, spent}
 use Rattle.meeting.proofs.Chat.{chat}
 use Rattle.meeting.proofs.Frames.{Told, Both, lower}
-use Rattle.meeting.proofs.Finish.{written-narrow, finish}
+use Rattle.meeting.proofs.Finish.{wrote, met, written-narrow, finish}
 use Rattle.meeting.proofs.Start.{self, rejected1, rejected2, waits, Opens, opened}
 
 -- ---- one end
-
--- a u32 that was sent in four bytes comes back
-learned : {v was now : ℕ} (r : Bool) → now ≡ heard v r was → Learned v r was now
-learned {v} {was} {now} r e =
-    record {
-      offered = λ f h. e ∙ ap (λ (k : Bool). heard v k was) f ∙ be-round 4 v h;
-      unchanged = λ f. e ∙ ap (λ (k : Bool). heard v k was) f;
-    }
-
-wrote : {X Y : Self} {e : End} {w : List ℕ} → Told X Y e w → Wrote w
-wrote t = record { packets = t .packets; whole = t .whole; count = t .count }
-
-met : {x y e : End} {w : List ℕ} → Told (self x) (self y) e w → Met x y e w
-met {x} {y} t =
-    let s = t .settled in
-    record {
-      phase = ap (λ (p : Ppp). p .phase) (s .is);
-      lcp = ap (λ (p : Ppp). p .lcp .state) (s .is);
-      ipv4cp = ap (λ (p : Ppp). p .ipv4cp .state) (s .is);
-      map = learned (y .link .ppp .lcp .proto .«asyncmap_rej») (ap (λ (p : Ppp). p .lcp .proto .«asyncmap_remote») (s .is));
-      peer = learned (y .link .ppp .ipv4cp .proto .address .«is_rejected») (ap (λ (p : Ppp). p .ipv4cp .proto .«peer_address») (s .is) ∙ s .hears);
-      wrote = wrote t;
-    }
 
 one : (c : List ℕ) → 0 < length c → 1 ≤ oneUnlessEmpty c
 one [] h = h

@@ -67,12 +67,14 @@ pub record Side (x y : End) (z : Net) : Type 0 where
   pub written : Begins (z .fromA)
   pub met : z .toA ≡ [] → z .toB ≡ [] → Met x y (z .a) (z .fromA)
 
--- all has been passed on, after some more calls
-pub record Finishes (z : Net) : Type 0 where
+-- all has been passed on, after some more calls, and both ends have met
+pub record Finishes (x y : End) (z : Net) : Type 0 where
   pub last : Net
   pub run : Run z last
   pub emptyA : last .toA ≡ []
   pub emptyB : last .toB ≡ []
+  pub metA : Met x y (last .a) (last .fromA)
+  pub metB : Met y x (last .b) (last .fromB)
 
 -- both ends; calls that are handed a byte are 684 at most, so that a run which goes on with such calls comes to where all is passed on
 pub record Meeting (x y : End) (tx tx′ : List ℕ) (z : Net) (r : Run (begun x y tx tx′) z) : Type 0 where
@@ -81,7 +83,7 @@ pub record Meeting (x y : End) (tx tx′ : List ℕ) (z : Net) (r : Run (begun x
   pub atA : Side x y z
   pub atB : Side y x (flip z)
   pub bounded : steps r ≤ 684
-  pub finishes : Finishes z
+  pub finishes : Finishes x y z
 
 -- "Open both and poll each once before a byte reaches it. Then pass the bytes on in any cuts and any order between the directions"
 abbrev pub TwoEndsMeet : Type 0
