@@ -1,16 +1,37 @@
--- The calls of the statement are those that the link's functions promise: what a caller holds after `open`, `consume` and `poll`.
+-- The statement is about what a caller holds: by the contracts of the link's functions every call gives back a link that calls reach,
+-- and `open` or `consume` with a poll behind it is the statement's call.
 -- Assumes nothing.
 use mathlib.Core.Path.{_≡_, refl}
 use mathlib.Core.List.{List}
 use Prim.Native.Nat.{ℕ}
 use lib.ListN.{take}
-use Rattle.phases.specs.Phases.{openOf}
+use Rattle.framing.specs.Reader.{freshReader}
+use Rattle.framing.specs.declared.frame_reader.Reading.{Reading}
+use Rattle.phases.specs.Phases.{newOf, openOf}
 use Rattle.link.specs.Refusal.{outcomeNumber}
 use Rattle.link.specs.Link.{Changes, Consumes, Polls, pollLink, actionNumber, transmitted}
+use Rattle.link.specs.Reached.{Reached, by-new, by-open, by-consume, by-poll}
 use Rattle.link.specs.declared.refusal.Outcome.{Outcome}
 use Rattle.link.specs.declared.pppos.PPPoS.{PPPoS}
 use Rattle.link.specs.declared.pppos.PPPoSAction.{PPPoSAction}
 use Rattle.meeting.specs.Calls.{endOf, Answer, opens, takes}
+
+-- ---- reached, whatever is lent and whether or not it is refused
+
+pub new-reaches : (name password : List ℕ) (k : Reading) {o : Outcome} {l : PPPoS} → Changes (newOf name password) (freshReader k) o l → Reached l
+new-reaches name password k c = rw (c .link) (by-new name password k)
+
+module _ {l l′ : PPPoS} (r : Reached l) where
+  pub open-reaches : {o : Outcome} → Changes (openOf (l .ppp)) (l .«frame_reader») o l′ → Reached l′
+  open-reaches c = rw (c .link) (by-open l r)
+
+  pub consume-reaches : (rx bs : List ℕ) {o : Outcome} {n : ℕ} {rx′ : List ℕ} → Consumes l rx bs o n l′ rx′ → Reached l′
+  consume-reaches rx bs c = rw (c .link) (by-consume l rx bs r)
+
+  pub poll-reaches : (tx rx : List ℕ) {a : PPPoSAction} {tx′ rx′ : List ℕ} → Polls (pollLink l tx rx) a l′ tx′ rx′ → Reached l′
+  poll-reaches tx rx p = rw (p .link) (by-poll l tx rx r)
+
+-- ---- the statement's calls
 
 -- an outcome and a count, then an action, the link and both buffers
 abbrev pub answerOf : Outcome → ℕ → PPPoSAction → PPPoS → List ℕ → List ℕ → Answer
