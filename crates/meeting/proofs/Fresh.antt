@@ -1,4 +1,4 @@
--- The statement speaks of something: fresh links, with any credentials and in either reading, are ready to meet.
+-- The statement speaks of something: two fresh links, with any credentials and each in either reading, meet.
 -- Assumes nothing.
 use mathlib.Core.Path.{_≡_, refl}
 use mathlib.Core.List.{List}
@@ -13,11 +13,16 @@ use Rattle.phases.specs.Phases.{PppTurn}
 use Rattle.phases.specs.declared.ppp.Phase.the-variants.{Dead}
 use Rattle.link.specs.Link.{newLink}
 use Rattle.link.specs.Reached.{by-new}
-use Rattle.meeting.specs.Calls.{endOf}
-use Rattle.meeting.specs.Statement.{Ready}
+use Rattle.meeting.specs.Calls.{End, endOf, Net, begun, Run}
+use Rattle.meeting.specs.Statement.{Ready, Meeting}
+use Rattle.meeting.proofs.Meet.{two-ends-meet}
 
-pub fresh-ready : (name password : List ℕ) (k : Reading) (rx : List ℕ) → 27 ≤ length rx → Ready (endOf (newLink name password k) rx)
-fresh-ready name password k rx h =
+-- a link that was just made, and its receive buffer
+pub data Fresh : End → Type 0 where
+  made : (name password : List ℕ) (k : Reading) (rx : List ℕ) → 27 ≤ length rx → Fresh (endOf (newLink name password k) rx)
+
+pub fresh-ready : {x : End} → Fresh x → Ready x
+fresh-ready (made name password k rx h) =
     record {
       dead = cond-all (λ (t : PppTurn). t .ppp .phase ≡ Dead) (fitsCredentials (length name) (length password)) refl refl;
       reached = by-new name password k;
@@ -26,3 +31,7 @@ fresh-ready name password k rx h =
       no-escape = refl;
       room = omega arith;
     }
+
+pub fresh-meet : {x y : End} → Fresh x → Fresh y → (tx tx′ : List ℕ) → 795 ≤ length tx → 795 ≤ length tx′
+    → (z : Net) (r : Run (begun x y tx tx′) z) → Meeting x y tx tx′ z r
+fresh-meet {x} {y} hx hy = two-ends-meet x y (fresh-ready hx) (fresh-ready hy)
