@@ -12,7 +12,7 @@ use Rattle.meeting.specs.Calls.{End, Net, flip, begun, oneUnlessEmpty, s
 use Rattle.meeting.specs.Statement.{Side, TwoEndsMeet}
 use Rattle.meeting.proofs.Bytes.{hold}
 use Rattle.meeting.proofs.Diamond.{flipped, ended, whole}
-use Rattle.meeting.proofs.Ways.{Way, at-first, along, Spent, spent}
+use Rattle.meeting.proofs.Ways.{no-more, Way, at-first, along, Spent, spent}
 use Rattle.meeting.proofs.Chat.{chat}
 use Rattle.meeting.proofs.Frames.{Told, Both, lower}
 use Rattle.meeting.proofs.Finish.{wrote, met, written-narrow, finish}
@@ -32,6 +32,7 @@ side told z w =
     record {
       unrefused = λ tx c rest room e. at-first z w tx c rest room e .unrefused;
       consumes = λ tx c rest room e h. omega (arith, at-first z w tx c rest room e .least, one c h);
+      no-more = no-more (z .a);
       written = record { rest = all .moreA; extends = wrote (told _ _ _ _ (all .good)) };
       met = λ e f. met (told _ _ _ _ (ended (rw (e, f) at w)));
     }

@@ -46,7 +46,10 @@ pub record Passed (Q : End → End → List ℕ → List ℕ → Type 0) (b : En
   pub way : Ends Q (got .now) b (drop (got .used) (c ++ r)) (v ++ got .written) (f ++ got .written) g
   pub unrefused : Unrefused got
   pub least : oneUnlessEmpty c ≤ got .used
-  pub most : got .used ≤ length c
+
+pub no-more : (e : End) (tx c : List ℕ) → takes e tx c .used ≤ length c
+unfolding takes
+no-more e tx c = omega arith
 
 -- a reader that takes bytes consumes one of those that it is handed
 some : (e : End) (c : List ℕ) → Rest e → oneUnlessEmpty c ≤ length c - length (fed (hold e) c .left)
@@ -66,7 +69,6 @@ passed tx c r room {a} {v} {f} e =
       way = rw back (k .way);
       unrefused = record { first = refl; polled = k .polled };
       least = some a c s;
-      most = omega arith;
     })
 
 -- ---- a run
@@ -100,7 +102,7 @@ step-spent : {Q : End → End → List ℕ → List ℕ → Type 0} (k : ℕ) (m
 step-spent k m w tx c rest room e h =
     let p = at-first m w tx c rest room e in
     let got = takes (m .a) tx c in
-    omega (arith, p .least, p .most, length-drop (got .used) (m .toA), length-append (m .toB) (got .written), length-append (m .fromA) (got .written), ap length e, length-append c rest)
+    omega (arith, p .least, no-more (m .a) tx c, length-drop (got .used) (m .toA), length-append (m .toB) (got .written), length-append (m .fromA) (got .written), ap length e, length-append c rest)
 
 pub spent : {Q : End → End → List ℕ → List ℕ → Type 0} {n m : Net} → Way Q n → Spent 0 n → (r : Run n m) → Spent (steps r) m
 unfolding steps

@@ -64,6 +64,8 @@ pub record Side (x y : End) (z : Net) : Type 0 where
   -- the next call, whatever it is handed of the bytes on its wire
   pub unrefused : (tx c rest : List ℕ) → 795 ≤ length tx → z .toA ≡ c ++ rest → Unrefused (takes (z .a) tx c)
   pub consumes : (tx c rest : List ℕ) → 795 ≤ length tx → z .toA ≡ c ++ rest → 0 < length c → 0 < takes (z .a) tx c .used
+  -- and no byte that it is not handed
+  pub no-more : (tx c : List ℕ) → takes (z .a) tx c .used ≤ length c
   pub written : Begins (z .fromA)
   pub met : z .toA ≡ [] → z .toB ≡ [] → Met x y (z .a) (z .fromA)
 
