@@ -43,6 +43,9 @@ met {x} {y} t =
       ipv4cp = ap (λ (p : Ppp). p .ipv4cp .state) (s .is);
       map = learned (y .link .ppp .lcp .proto .«asyncmap_rej») (ap (λ (p : Ppp). p .lcp .proto .«asyncmap_remote») (s .is));
       peer = learned (y .link .ppp .ipv4cp .proto .address .«is_rejected») (ap (λ (p : Ppp). p .ipv4cp .proto .«peer_address») (s .is) ∙ s .hears);
+      own-map = ap (λ (p : Ppp). p .lcp .proto .asyncmap) (s .is);
+      own-map-rejected = ap (λ (p : Ppp). p .lcp .proto .«asyncmap_rej») (s .is);
+      own-address = ap (λ (p : Ppp). p .ipv4cp .proto .address) (s .is);
       wrote = wrote t;
     }
 

@@ -57,6 +57,10 @@ pub record Met (x y e : End) (w : List ℕ) : Type 0 where
       (x .link .ppp .lcp .proto .«asyncmap_remote») (e .link .ppp .lcp .proto .«asyncmap_remote»)
   pub peer : Learned (y .link .ppp .ipv4cp .proto .address .address) (y .link .ppp .ipv4cp .proto .address .«is_rejected»)
       (x .link .ppp .ipv4cp .proto .«peer_address») (e .link .ppp .ipv4cp .proto .«peer_address»)
+  -- what it offers itself is as it was, so that both ends agree
+  pub own-map : e .link .ppp .lcp .proto .asyncmap ≡ x .link .ppp .lcp .proto .asyncmap
+  pub own-map-rejected : e .link .ppp .lcp .proto .«asyncmap_rej» ≡ x .link .ppp .lcp .proto .«asyncmap_rej»
+  pub own-address : e .link .ppp .ipv4cp .proto .address ≡ x .link .ppp .ipv4cp .proto .address
   pub wrote : Wrote w
 
 -- one end, wherever a run has come to
