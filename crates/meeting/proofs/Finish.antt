@@ -32,7 +32,7 @@ learned {v} {was} {now} r e =
     }
 
 pub wrote : {X Y : Self} {e : End} {w : List ℕ} → Told X Y e w → Wrote w
-wrote t = record { packets = t .packets; whole = t .whole; count = t .count }
+wrote t = record { framed = record { packets = t .packets; whole = t .whole }; count = t .count }
 
 pub met : {x y e : End} {w : List ℕ} → Told (self x) (self y) e w → Met x y e w
 met {x} {y} t =

@@ -42,8 +42,8 @@ side told z w =
 pub two-ends-meet : TwoEndsMeet
 two-ends-meet x y hx hy tx tx′ room room′ z r =
     record {
-      opensA = rw startA (record { first = refl; polled = refl });
-      opensB = rw startB (record { first = refl; polled = refl });
+      opensA = rw startA (record { first = refl; polled = refl; framed = record { packets = _; whole = refl } });
+      opensB = rw startB (record { first = refl; polled = refl; framed = record { packets = _; whole = refl } });
       atA = side (λ a b f g q. q .0) z here;
       atB = side (λ a b f g q. q .1) (flip z) (flipped here);
       bounded = omega (arith, paid, written-narrow here);

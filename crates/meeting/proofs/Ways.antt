@@ -11,12 +11,13 @@ use Rattle.laws.proofs.Cases.{by-test}
 use Rattle.framing.specs.Reader.{step, full, Fed, fed}
 use Rattle.framing.proofs.Reader.{fed-nil, fed-step, fed-stop, fed-left, fed-left-le, consumed-fed}
 use Rattle.phases.specs.declared.ppp.Ppp.{Ppp}
+use Rattle.link.specs.Frames.{frames}
 use Rattle.link.specs.Link.{linkOf, pollLink}
 use Rattle.link.specs.declared.refusal.Outcome.{Outcome}
 use Rattle.link.specs.declared.refusal.Outcome.the-variants.{Done}
 use Rattle.meeting.specs.Calls.{End, Answer, behind, takes, Net, flip, answered, Run, start, atA, atB, oneUnlessEmpty, steps}
-use Rattle.meeting.specs.Statement.{Unrefused}
-use Rattle.meeting.proofs.Bytes.{hold, feed, Rest, stepped-quiet, says-quiet, stepped-full, says-full, rests, replies}
+use Rattle.meeting.specs.Statement.{Framed, Unrefused}
+use Rattle.meeting.proofs.Bytes.{hold, feed, turn, Rest, stepped-quiet, says-quiet, stepped-full, says-full, rests, replies}
 use Rattle.meeting.proofs.Diamond.{Ends, flipped, next, readable, resting}
 
 -- ---- one call
@@ -29,16 +30,20 @@ after f p tx o n = behind o n (pollLink (linkOf (f .now .reader) p) tx (f .now .
 record Served (Q : End → End → List ℕ → List ℕ → Type 0) (b : End) (r v f g left : List ℕ) (got : Answer) : Type 0 where
   way : Ends Q (got .now) b (left ++ r) (v ++ got .written) (f ++ got .written) g
   polled : got .polled ≡ 0
+  framed : Framed (got .written)
 
 module _ {Q : End → End → List ℕ → List ℕ → Type 0} (tx : List ℕ) (room : 795 ≤ length tx) (o : Outcome) (n : ℕ) where
   served : (c r : List ℕ) {a b : End} {v f g : List ℕ} → Ends Q a b (c ++ r) v f g
       → Served Q b r v f g (fed (hold a) c .left) (after (fed (hold a) c) (a .link .ppp) tx o n)
-  served [] r {a} {v} {f} e = rw (fed-nil (hold a), rests a tx room o n (resting e)) (record { way = simp append-nil e; polled = refl })
+  unfolding frames
+  served [] r {a} {v} {f} e =
+      rw (fed-nil (hold a), rests a tx room o n (resting e))
+      (record { way = simp append-nil e; polled = refl; framed = record { packets = []; whole = refl } })
   served (x ∷ c) r {a} {v} {f} e =
       rw (fed-step (hold a) x c (resting e .empty))
       (by-test (full (step (hold a) x))
       (λ t. rw (fed-stop (step (hold a) x) c t, replies (feed a x) tx room o n t (readable e .ends t))
-      (record { way = rw (stepped-full a x t, says-full a x t) at (next e); polled = refl }))
+      (record { way = rw (stepped-full a x t, says-full a x t) at (next e); polled = refl; framed = record { packets = turn (feed a x) .sent; whole = refl } }))
       (λ t. served c r {a = feed a x} {v = v} {f = f} (simp append-nil at (rw (stepped-quiet a x t, says-quiet a x t) at (next e)))))
 
 -- what a call that is handed c of the bytes c ++ r comes to
@@ -67,7 +72,7 @@ passed tx c r room {a} {v} {f} e =
     rw (consumed-fed (hold a) c (s .within), le-ltb (length (a .rx)) (a .link .«frame_reader» .len) (s .within))
     (record {
       way = rw back (k .way);
-      unrefused = record { first = refl; polled = k .polled };
+      unrefused = record { first = refl; polled = k .polled; framed = k .framed };
       least = some a c s;
     })
 

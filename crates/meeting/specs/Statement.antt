@@ -22,10 +22,16 @@ pub record Ready (x : End) : Type 0 where
   pub no-escape : x .link .«frame_reader» .escape ≡ false
   pub room : 27 ≤ length (x .rx)
 
--- "no call refuses"
+-- w is whole frames
+pub record Framed (w : List ℕ) : Type 0 where
+  pub packets : List (List ℕ)
+  pub whole : w ≡ frames packets
+
+-- "no call refuses"; what it writes is whole frames
 pub record Unrefused (r : Answer) : Type 0 where
   pub first : r .first ≡ 0
   pub polled : r .polled ≡ 0
+  pub framed : Framed (r .written)
 
 -- "each end writes four to six frames"
 pub record FourToSix (ps : List (List ℕ)) : Type 0 where
@@ -34,9 +40,8 @@ pub record FourToSix (ps : List (List ℕ)) : Type 0 where
 
 -- w is all that an end writes, its first poll's frame included
 pub record Wrote (w : List ℕ) : Type 0 where
-  pub packets : List (List ℕ)
-  pub whole : w ≡ frames packets
-  pub count : FourToSix packets
+  pub framed : Framed w
+  pub count : FourToSix (framed .packets)
 
 -- w is the beginning of what an end writes
 pub record Begins (w : List ℕ) : Type 0 where
