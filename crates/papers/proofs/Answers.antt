@@ -8,13 +8,9 @@ use borrow.Author.Tests.{eq-eqb, ne-eqb, ltb-true, ltb-false}
 use native.Mathlib.Omega.{arith}
 use lib.Dec.{eqb, ltb, leb}
 use lib.ListN.{length}
-use Rattle.laws.specs.Same.{same}
 use Rattle.laws.proofs.Cases.{by-test, cond-by, cond-ap}
-use Rattle.options.specs.declared.ipv4cp.Ipv4cpJudged.{Ipv4cpJudged}
-use Rattle.options.specs.declared.lcp.LcpJudged.{LcpJudged}
 use Rattle.options.specs.declared.walk.Reply.{Reply}
 use Rattle.options.specs.declared.proto.Proto.{Proto}
-use Rattle.options.specs.declared.proto.Proto.the-variants.{Lcp, Ipv4cp}
 use Rattle.options.specs.declared.proto.Verdict.{Verdict}
 use Rattle.options.specs.declared.proto.Verdict.the-variants.{Ack, Nack, Rej}
 use Rattle.papers.specs.Rfc1661.{Option, Options, none}
@@ -24,35 +20,9 @@ use Rattle.options.specs.Options.{optBytes, sentBack, Walk, done, cut, opt, wal
 use Rattle.options.specs.Proto.{judgeOf, ownNacked, nacksOf}
 use Rattle.options.specs.Reply.{rankOf, freshReply, suggestion, listedOf, stepOf, replyOf}
 use Rattle.options.proofs.Wires.{content-pkt}
-use Rattle.papers.proofs.Layouts1661.{optionAs, laid-one, laid-both, walkOptions, walk-options, bytesOf, options-bytes, isWhole}
-
--- ---- the verdict on an option, which no earlier option changes
-
-abbrev pub lcpVerdict : ℕ → List ℕ → Verdict
-lcpVerdict c d = cond (eqb c 2) (cond (eqb (length d) 4) Ack Rej) (cond (eqb c 3) (cond (same d suggestion) Ack Nack) Rej)
-
-abbrev pub ipv4cpVerdict : ℕ → List ℕ → Verdict
-ipv4cpVerdict c d = cond (eqb c 3 && eqb (length d) 4) Ack Rej
-
-abbrev pub verdictOf : Proto → ℕ → List ℕ → Verdict
-verdictOf (Lcp p) c d = lcpVerdict c d
-verdictOf (Ipv4cp p) c d = ipv4cpVerdict c d
-
-judged-verdict : (p : Proto) (c : ℕ) (d : List ℕ) → judgeOf p c d suggestion .verdict ≡ verdictOf p c d
-judged-verdict (Lcp p) c d = go (eqb c 2) (eqb (length d) 4) (eqb c 3) (same d suggestion) _ _ _ _ _
-  where
-    go : (s t u v : Bool) (a b e f g : LcpJudged) → cond s (cond t a b) (cond u (cond v e f) g) .verdict
-        ≡ cond s (cond t (a .verdict) (b .verdict)) (cond u (cond v (e .verdict) (f .verdict)) (g .verdict))
-    go true true u v a b e f g = refl
-    go true false u v a b e f g = refl
-    go false t true true a b e f g = refl
-    go false t true false a b e f g = refl
-    go false t false v a b e f g = refl
-judged-verdict (Ipv4cp p) c d = cond-ap (λ (j : Ipv4cpJudged). j .verdict) (eqb c 3 && eqb (length d) 4) _ _
-
-judged-proto : (p : Proto) (c : ℕ) (d : List ℕ) → verdictOf (judgeOf p c d suggestion .proto) ≡ verdictOf p
-judged-proto (Lcp p) c d = refl
-judged-proto (Ipv4cp p) c d = refl
+use Rattle.papers.proofs.Layouts1661.{optionAs, laid-one, laid-both, bytesOf, options-bytes}
+use Rattle.papers.proofs.Walked.{walkOptions, walk-options, isWhole, Typed, options-typed}
+use Rattle.papers.proofs.Verdicts.{verdictOf, judged-verdict, judged-proto, judgedAll}
 
 -- ---- the options that a reply of verdict v holds
 
@@ -107,7 +77,7 @@ record Answered (f : ℕ → List ℕ → Verdict) (v : Verdict) (ls os : List O
   top : Top f (r .verdict) os
   laid : Options (contentOf (r .packet)) (cond (eqb (rankOf v) (rankOf (r .verdict))) ls [] ++ answers f (r .verdict) os)
 
-module _ (f : ℕ → List ℕ → Verdict) (o : Option) (os : List Option) (r s z : Reply) (p : Proto) (ls : List Option) where
+module _ (f : ℕ → List ℕ → Verdict) (o : Option) (os : List Option) (r s z : Reply) (p : Proto) (ls : List Option) (c : o .type < 256) where
   extend : Stepped r s p (f (o .type) (o .value)) (o .type) (answerTo f o .value) → isDone (s .outcome) ≡ true
       → Options (contentOf (r .packet)) ls
       → ((ms : List Option) → s .proto ≡ p → Options (contentOf (s .packet)) ms → Answered f (s .verdict) ms os z)
@@ -123,7 +93,7 @@ module _ (f : ℕ → List ℕ → Verdict) (o : Option) (os : List Option) (r s
         laid = rw (ne-eqb _ _ n, ← k) (a .laid);
       }
   extend (alone q m h e i) d l ih =
-      let a = ih (answerTo f o ∷ []) q (rw i (laid-one _ _ (omega arith))) in
+      let a = ih (answerTo f o ∷ []) q (rw i (laid-one _ _ c (omega arith))) in
       let k : rankOf (s .verdict) ≡ rankOf (f (o .type) (o .value)) = ap rankOf e in
       let n : rankOf (r .verdict) ≡ rankOf (z .verdict) → ⊥ = λ y. omega (arith, a .up) in
       record {
@@ -132,7 +102,7 @@ module _ (f : ℕ → List ℕ → Verdict) (o : Option) (os : List Option) (r s
         laid = rw (ne-eqb _ _ n, ← joined-alone, ← k) (a .laid);
       }
   extend (another q m h e i) d l ih =
-      let a = ih (ls ++ (answerTo f o ∷ [])) q (rw i (laid-both l (laid-one _ _ (omega arith)))) in
+      let a = ih (ls ++ (answerTo f o ∷ [])) q (rw i (laid-both l (laid-one _ _ c (omega arith)))) in
       let k : rankOf (s .verdict) ≡ rankOf (f (o .type) (o .value)) = ap rankOf e in
       record {
         up = omega (arith, a .up);
@@ -146,18 +116,35 @@ step-stepped : (r : Reply) (c : ℕ) (d : List ℕ)
 unfolding stepOf
 step-stepped r c d = rw (← judged-verdict (r .proto) c d) (stepped r _ _ c _)
 
-answered : (os : List Option) (r : Reply) (ls : List Option) → Options (contentOf (r .packet)) ls
+answered : (os : List Option) (r : Reply) (ls : List Option) → Typed os → Options (contentOf (r .packet)) ls
     → isDone (replyOf r (walkOptions os) .outcome) ≡ true
     → Answered (verdictOf (r .proto)) (r .verdict) ls os (replyOf r (walkOptions os))
 unfolding replyOf
-answered [] r ls l d = record { up = omega arith; top = tt; laid = rw (eq-eqb _ _ refl, append-nil) l }
-answered (o ∷ os) r ls l d =
+answered [] r ls y l d = record { up = omega arith; top = tt; laid = rw (eq-eqb _ _ refl, append-nil) l }
+answered (o ∷ os) r ls y l d =
     let s = stepOf r (o .type) (o .value) in
     let z = replyOf s (walkOptions os) in
     by-test (isDone (s .outcome))
-    (λ t. rw t (extend _ o os r s z _ ls (step-stepped r (o .type) (o .value)) t l
+    (λ t. rw t (extend _ o os r s z _ ls (y .0) (step-stepped r (o .type) (o .value)) t l
     (λ ms e m. subst (λ (f : ℕ → List ℕ → Verdict). Answered f (s .verdict) ms os z)
-    (ap verdictOf e ∙ judged-proto (r .proto) (o .type) (o .value)) (answered os s ms m (rw t at d)))))
+    (ap verdictOf e ∙ judged-proto (r .proto) (o .type) (o .value)) (answered os s ms (y .1) m (rw t at d)))))
+    (λ t. absurd (true≢false (sym (rw t at d) ∙ t)))
+
+-- what the options change of the protocol, where none is refused
+stepped-proto : {r s : Reply} {p : Proto} {v : Verdict} {c : ℕ} {d : List ℕ} → Stepped r s p v c d → isDone (s .outcome) ≡ true → s .proto ≡ p
+stepped-proto (refused e) t = absurd (true≢false (sym t ∙ e))
+stepped-proto (lower q h e i) t = q
+stepped-proto (alone q m h e i) t = q
+stepped-proto (another q m h e i) t = q
+
+answered-proto : (os : List Option) (r : Reply) → isDone (replyOf r (walkOptions os) .outcome) ≡ true
+    → replyOf r (walkOptions os) .proto ≡ judgedAll (r .proto) os
+unfolding replyOf
+answered-proto [] r d = refl
+answered-proto (o ∷ os) r d =
+    let s = stepOf r (o .type) (o .value) in
+    by-test (isDone (s .outcome))
+    (λ t. rw (t, ← stepped-proto (step-stepped r (o .type) (o .value)) t) (answered-proto os s (rw t at d)))
     (λ t. absurd (true≢false (sym (rw t at d) ∙ t)))
 
 -- ---- the reply to a request whose options are os
@@ -187,7 +174,7 @@ module _ (p : Proto) {s : List ℕ} {os : List Option} (l : Options s os) (d : i
   from-fresh : Answered (verdictOf p) Ack [] os (replyTo p s)
   from-fresh =
       let e = walk-options 0 l in
-      rw e (answered os (freshReply p) [] (rw content-pkt none) (rw e at d))
+      rw e (answered os (freshReply p) [] (options-typed l) (rw content-pkt none) (rw e at d))
 
   -- no option's verdict is higher than the reply's, and the reply holds those that have it
   pub reply-top : Top (verdictOf p) (replyTo p s .verdict) os
@@ -195,6 +182,9 @@ module _ (p : Proto) {s : List ℕ} {os : List Option} (l : Options s os) (d : i
 
   pub reply-options : Options (contentOf (replyTo p s .packet)) (answers (verdictOf p) (replyTo p s .verdict) os)
   reply-options = rw no-list at (from-fresh .laid)
+
+  pub reply-proto : replyTo p s .proto ≡ judgedAll p os
+  reply-proto = let e = walk-options 0 l in rw e (answered-proto os (freshReply p) (rw e at d))
 
   -- an Ack holds the bytes of the request
   pub reply-ack : replyTo p s .verdict ≡ Ack → contentOf (replyTo p s .packet) ≡ s

@@ -1,86 +1,58 @@
--- What is written and read is RFC 1332's and RFC 1877's: the options of IPv4CP that carry an address.
+-- IPv4CP's options that carry an address are RFC 1332's and RFC 1877's: as they are asked for, judged, and changed by a Nak or a Reject.
 -- Assumes nothing.
-use Prim.Native.Nat.{ℕ, _^_, _<_}
-use mathlib.Core.Path.{_≡_, refl, sym}
-use mathlib.Core.Bool.{true, false, cond}
-use mathlib.Core.List.{List, [], _∷_, _++_}
+use Prim.Native.Nat.{ℕ, _<_}
+use mathlib.Core.Path.{_≡_, refl, sym, _∙_}
+use mathlib.Core.Bool.{true, false}
+use mathlib.Core.List.{List}
+use native.Mathlib.Omega.{arith}
 use lib.ListN.{length}
 use Rattle.laws.specs.Be.{beBytes, beOf}
 use Rattle.laws.specs.Each.{Bytes}
 use Rattle.laws.proofs.Be.{be-round, be-less, be-again, length-be}
-use Rattle.laws.proofs.Cases.{cond-by}
 use Rattle.options.specs.declared.ipv4cp.IpOption.{IpOption}
 use Rattle.options.specs.declared.ipv4cp.Ipv4cp.{Ipv4cp}
 use Rattle.options.specs.declared.proto.Verdict.the-variants.{Ack}
-use Rattle.papers.specs.Rfc1661.{Option, Options}
+use Rattle.papers.specs.Rfc1661.{Option}
 use Rattle.papers.specs.Rfc1332.{Address, IpAddress, PrimaryDns, SecondaryDns}
-use Rattle.options.specs.Ipv4cp.{ownIpv4cp, ipNacked, judgeIpv4cp, withPeer}
-use Rattle.papers.proofs.Layouts1661.{optionAs, laid-both, laid-field}
+use Rattle.options.specs.Ipv4cp.{ownIp, ipNacked, ipv4cpNacked, judgeIpv4cp, withPeer}
+use Rattle.papers.proofs.Octets.{four-octets}
+use Rattle.papers.proofs.Layouts1661.{optionAs, Field, laid-field}
 
 -- ---- what is written
 
--- an own option in a list: none if it was dropped, else one that the paper has with this address
-pub data Carries (paper : Option → ℕ → Type 0) (o : IpOption) : List Option → Type 0 where
-  dropped : o .«is_rejected» ≡ true → Carries paper o []
-  sent : (x : Option) → o .«is_rejected» ≡ false → paper x (o .address) → Carries paper o (x ∷ [])
-
-pub carried : (t : ℕ) (o : IpOption) → o .address < 256 ^ 4
-    → Carries (Address t) o (cond (o .«is_rejected») [] (optionAs t (beBytes 4 (o .address)) ∷ []))
-carried t o h =
-    cond-by (Carries (Address t) o) (o .«is_rejected») (λ e. dropped e)
-    (λ e. sent (optionAs t (beBytes 4 (o .address))) e (record { small = h; type = refl; value = refl }))
-
--- the own options of IPv4CP as the papers have them, in bytes
-pub record Owned (p : Ipv4cp) (bytes : List ℕ) : Type 0 where
-  pub ip : List Option
-  pub primary : List Option
-  pub secondary : List Option
-  pub address : Carries IpAddress (p .address) ip
-  pub dns1 : Carries PrimaryDns (p .«dns_server_1») primary
-  pub dns2 : Carries SecondaryDns (p .«dns_server_2») secondary
-  pub laid : Options bytes (ip ++ (primary ++ secondary))
-
-pub laid-ipv4cp : (p : Ipv4cp) → p .address .address < 256 ^ 4 → p .«dns_server_1» .address < 256 ^ 4
-    → p .«dns_server_2» .address < 256 ^ 4 → Owned p (ownIpv4cp p)
-laid-ipv4cp p h k l =
-    let a = p .address in
-    let b = p .«dns_server_1» in
-    let c = p .«dns_server_2» in
-    record {
-      ip = _;
-      primary = _;
-      secondary = _;
-      address = carried 3 a h;
-      dns1 = carried 129 b k;
-      dns2 = carried 131 c l;
-      laid = laid-both (laid-field (a .«is_rejected») 3 (a .address))
-          (laid-both (laid-field (b .«is_rejected») 129 (b .address)) (laid-field (c .«is_rejected») 131 (c .address)));
-    }
+pub laid-address : (t : ℕ) (o : IpOption) → t < 256 → o .address < 0x100000000 → Field (Address t) (o .«is_rejected») (o .address) (ownIp o t)
+laid-address t o k h =
+    laid-field (Address t) (o .«is_rejected») t (o .address) k
+    (record { small = h; type = refl; value = four-octets (o .address) h })
 
 -- ---- what is read
 
 -- an option of four bytes carries the number that they say
 pub says-address : (t : ℕ) (d : List ℕ) → length d ≡ 4 → Bytes d → Address t (optionAs t d) (beOf d)
 says-address t d e b =
-    record {
-      small = rw e at (be-less d b);
-      type = refl;
-      value = sym (rw e at (be-again 0 d b));
-    }
+    let h : beOf d < 0x100000000 = rw e at (be-less d b) in
+    record { small = h; type = refl; value = sym (rw e at (be-again 0 d b)) ∙ four-octets (beOf d) h }
 
--- and is read so
-pub read-address : {t a : ℕ} {o : Option} → Address t o a → beOf (o .value) ≡ a
-read-address {t} {a} x = rw (x .value) (be-round 4 a (x .small))
+module _ {t a : ℕ} {o : Option} (x : Address t o a) where
+  -- its data by our own fields
+  in-bytes : o .value ≡ beBytes 4 a
+  in-bytes = x .value ∙ sym (four-octets a (x .small))
 
-read-length : {t a : ℕ} {o : Option} → Address t o a → length (o .value) ≡ 4
-read-length {t} {a} x = rw (x .value) (length-be 4 a)
+  address-length : length (o .value) ≡ 4
+  address-length = rw in-bytes (length-be 4 a)
 
--- the peer's address
-pub judge-address : (p : Ipv4cp) (o : Option) (a : ℕ) → IpAddress o a
+  address-number : beOf (o .value) ≡ a
+  address-number = rw in-bytes (be-round 4 a (x .small))
+
+-- the peer's address: acked, and stored
+pub judge-address : (p : Ipv4cp) {o : Option} {a : ℕ} → IpAddress o a
     → judgeIpv4cp p (o .type) (o .value) ≡ record { verdict = Ack; ipv4cp = withPeer p a }
-judge-address p o a x = rw (x .type, read-length x, read-address x) refl
+judge-address p x = rw (x .type, address-length x, address-number x) refl
 
--- an own address that the peer suggests
-pub nacked-address : (q : IpOption) {t a : ℕ} {o : Option} → Address t o a
+-- an own address that a Nak suggests, and one that a Reject drops
+pub nak-address : (q : IpOption) {t a : ℕ} {o : Option} → Address t o a
     → ipNacked q (o .value) false ≡ record { address = a; «is_rejected» = q .«is_rejected» }
-nacked-address q x = rw (read-length x, read-address x) refl
+nak-address q x = rw (address-length x, address-number x) refl
+
+pub reject-address : (q : IpOption) (d : List ℕ) → ipNacked q d true ≡ record { address = q .address; «is_rejected» = true }
+reject-address q d = refl

@@ -1,4 +1,10 @@
-pub mod Answers
-pub mod Layouts
-pub mod Layouts1332
+pub mod Octets
+pub mod Packets
+pub mod Reading
 pub mod Layouts1661
+pub mod Walked
+pub mod Layouts1662
+pub mod Layouts1332
+pub mod Layouts1334
+pub mod Verdicts
+pub mod Answers

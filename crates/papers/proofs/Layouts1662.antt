@@ -1,0 +1,70 @@
+-- LCP's map is RFC 1662's, section 7.1: as it is asked for, as it is judged, and as a Nak or a Reject changes it.
+-- Assumes nothing.
+use Prim.Native.Nat.{ℕ, zero, suc, _+_, _-_, _*_, _/_, _%_, _^_, _<_}
+use mathlib.Core.Path.{_≡_, refl, ap, sym, _∙_}
+use mathlib.Core.Bool.{true, false}
+use mathlib.Core.List.{List, [], _∷_}
+use native.Mathlib.Omega.{arith}
+use lib.ListN.{length, getD}
+use lib.Pow.{shr-shr, field, mod-mod-pow}
+use Rattle.laws.specs.Be.{beBytes, beOf}
+use Rattle.laws.proofs.Be.{length-be, be-round}
+use Rattle.options.specs.declared.lcp.Lcp.{Lcp}
+use Rattle.options.specs.declared.proto.Verdict.the-variants.{Ack}
+use Rattle.papers.specs.Rfc1661.{Option}
+use Rattle.papers.specs.Rfc1662Options.{AsyncMap, bitFor}
+use Rattle.options.specs.Lcp.{ownLcp, judgeLcp, judgedLcp, withRemote, lcpNacked}
+use Rattle.papers.proofs.Octets.{four-octets}
+use Rattle.papers.proofs.Layouts1661.{optionAs, Field, laid-field}
+
+-- ---- what is written
+
+pub laid-map : (p : Lcp) → p .asyncmap < 0x100000000 → Field AsyncMap (p .«asyncmap_rej») (p .asyncmap) (ownLcp p)
+laid-map p h =
+    laid-field AsyncMap (p .«asyncmap_rej») 2 (p .asyncmap) (omega arith)
+    (record { small = h; type = refl; value = four-octets (p .asyncmap) h })
+
+-- ---- what is read
+
+module _ {o : Option} {m : ℕ} (x : AsyncMap o m) where
+  -- its data by our own fields
+  in-bytes : o .value ≡ beBytes 4 m
+  in-bytes = x .value ∙ sym (four-octets m (x .small))
+
+  map-length : length (o .value) ≡ 4
+  map-length = rw in-bytes (length-be 4 m)
+
+  map-number : beOf (o .value) ≡ m
+  map-number = rw in-bytes (be-round 4 m (x .small))
+
+  octet : (k : ℕ) → k < 4 → getD (o .value) (3 - k) 0 ≡ m / 2 ^ (8 * k) % 2 ^ 8
+  octet zero h = rw (x .value) (omega arith)
+  octet (suc zero) h = rw (x .value) refl
+  octet (suc (suc zero)) h = rw (x .value) refl
+  octet (suc (suc (suc zero))) h = rw (x .value) (omega (arith, x .small))
+  octet (suc (suc (suc (suc k)))) h = absurd (omega arith)
+
+  -- the bit that the paper has for an octet is the one of that number in the number read
+  pub map-bit : (b : ℕ) → b < 32 → bitFor o b ≡ m / 2 ^ b % 2
+  map-bit b h =
+      let r = b % 8 in
+      let n = m / 2 ^ (8 * (b / 8)) in
+      let j : 8 ≡ (7 - r + 1) + r = omega arith in
+      let k : 8 * (b / 8) + r ≡ b = omega arith in
+      let e : n % 2 ^ 8 / 2 ^ r % 2 ≡ n / 2 ^ r % 2 =
+      ap (λ (i : ℕ). n % 2 ^ i / 2 ^ r % 2) j ∙ ap (λ (y : ℕ). y % 2) (field n (7 - r + 1) r) ∙ mod-mod-pow (n / 2 ^ r) (7 - r) 1 in
+      ap (λ (y : ℕ). y / 2 ^ r % 2) (octet (b / 8) (omega arith)) ∙ e ∙ rw (shr-shr m (8 * (b / 8)) r, k) refl
+
+  -- as the peer offers it: acked, and its number is the one stored
+  pub judge-map : (p : Lcp) (s : List ℕ) → judgeLcp p (o .type) (o .value) s ≡ judgedLcp Ack (withRemote p m)
+  judge-map p s = rw (x .type, map-length, map-number) refl
+
+  -- as a Nak suggests another
+  pub nak-map : (p : Lcp) → lcpNacked p (o .type) (o .value) false
+      ≡ record { auth = p .auth; «asyncmap_remote» = p .«asyncmap_remote»; asyncmap = m; «asyncmap_rej» = p .«asyncmap_rej» }
+  nak-map p = rw (x .type, map-length, map-number) refl
+
+  -- as a Reject drops it
+  pub reject-map : (p : Lcp) → lcpNacked p (o .type) (o .value) true
+      ≡ record { auth = p .auth; «asyncmap_remote» = p .«asyncmap_remote»; asyncmap = p .asyncmap; «asyncmap_rej» = true }
+  reject-map p = rw (x .type) refl
