@@ -2,7 +2,7 @@
 -- Assumes nothing.
 use Prim.Native.Nat.{ℕ, _<_}
 use mathlib.Core.Path.{_≡_, refl, sym, _∙_}
-use mathlib.Core.Bool.{true, false}
+use mathlib.Core.Bool.{Bool, true, false}
 use mathlib.Core.List.{List}
 use native.Mathlib.Omega.{arith}
 use lib.ListN.{length}
@@ -11,10 +11,12 @@ use Rattle.laws.specs.Each.{Bytes}
 use Rattle.laws.proofs.Be.{be-round, be-less, be-again, length-be}
 use Rattle.options.specs.declared.ipv4cp.IpOption.{IpOption}
 use Rattle.options.specs.declared.ipv4cp.Ipv4cp.{Ipv4cp}
+use Rattle.options.specs.declared.proto.Proto.the-variants.{Ipv4cp as OfIpv4cp}
 use Rattle.options.specs.declared.proto.Verdict.the-variants.{Ack}
 use Rattle.papers.specs.Rfc1661.{Option}
 use Rattle.papers.specs.Rfc1332.{Address, IpAddress, PrimaryDns, SecondaryDns}
-use Rattle.options.specs.Ipv4cp.{ownIp, ipNacked, ipv4cpNacked, judgeIpv4cp, withPeer}
+use Rattle.options.specs.Ipv4cp.{ownIp, ipNacked, judgeIpv4cp, withPeer}
+use Rattle.options.specs.Proto.{ownNacked}
 use Rattle.papers.proofs.Octets.{four-octets}
 use Rattle.papers.proofs.Layouts1661.{optionAs, Field, laid-field}
 
@@ -49,10 +51,28 @@ pub judge-address : (p : Ipv4cp) {o : Option} {a : ℕ} → IpAddress o a
     → judgeIpv4cp p (o .type) (o .value) ≡ record { verdict = Ack; ipv4cp = withPeer p a }
 judge-address p x = rw (x .type, address-length x, address-number x) refl
 
--- an own address that a Nak suggests, and one that a Reject drops
-pub nak-address : (q : IpOption) {t a : ℕ} {o : Option} → Address t o a
-    → ipNacked q (o .value) false ≡ record { address = a; «is_rejected» = q .«is_rejected» }
-nak-address q x = rw (address-length x, address-number x) refl
+-- an own address as a Reject drops it, or as a Nak suggests another
+abbrev pub takenAddress : Bool → IpOption → ℕ → IpOption
+takenAddress true q a = record { address = q .address; «is_rejected» = true }
+takenAddress false q a = record { address = a; «is_rejected» = q .«is_rejected» }
 
-pub reject-address : (q : IpOption) (d : List ℕ) → ipNacked q d true ≡ record { address = q .address; «is_rejected» = true }
-reject-address q d = refl
+taken-address : (rej : Bool) (q : IpOption) {t a : ℕ} {o : Option} → Address t o a → ipNacked q (o .value) rej ≡ takenAddress rej q a
+taken-address true q x = refl
+taken-address false q x = rw (address-length x, address-number x) refl
+
+-- each of the three changes its own, and no other
+module _ (rej : Bool) (p : Ipv4cp) {o : Option} {a : ℕ} where
+  pub take-ip : IpAddress o a → ownNacked (OfIpv4cp p) (o .type) (o .value) rej
+      ≡ OfIpv4cp (record { «peer_address» = p .«peer_address»; address = takenAddress rej (p .address) a; «dns_server_1» = p .«dns_server_1»; «dns_server_2» = p .«dns_server_2» })
+  unfolding ownNacked
+  take-ip x = rw (x .type, taken-address rej (p .address) x) refl
+
+  pub take-dns1 : PrimaryDns o a → ownNacked (OfIpv4cp p) (o .type) (o .value) rej
+      ≡ OfIpv4cp (record { «peer_address» = p .«peer_address»; address = p .address; «dns_server_1» = takenAddress rej (p .«dns_server_1») a; «dns_server_2» = p .«dns_server_2» })
+  unfolding ownNacked
+  take-dns1 x = rw (x .type, taken-address rej (p .«dns_server_1») x) refl
+
+  pub take-dns2 : SecondaryDns o a → ownNacked (OfIpv4cp p) (o .type) (o .value) rej
+      ≡ OfIpv4cp (record { «peer_address» = p .«peer_address»; address = p .address; «dns_server_1» = p .«dns_server_1»; «dns_server_2» = takenAddress rej (p .«dns_server_2») a })
+  unfolding ownNacked
+  take-dns2 x = rw (x .type, taken-address rej (p .«dns_server_2») x) refl

@@ -2,7 +2,7 @@
 -- Assumes nothing.
 use Prim.Native.Nat.{ℕ, zero, suc, _+_, _-_, _*_, _/_, _%_, _^_, _<_}
 use mathlib.Core.Path.{_≡_, refl, ap, sym, _∙_}
-use mathlib.Core.Bool.{true, false}
+use mathlib.Core.Bool.{Bool, true, false}
 use mathlib.Core.List.{List, [], _∷_}
 use native.Mathlib.Omega.{arith}
 use lib.ListN.{length, getD}
@@ -10,10 +10,12 @@ use lib.Pow.{shr-shr, field, mod-mod-pow}
 use Rattle.laws.specs.Be.{beBytes, beOf}
 use Rattle.laws.proofs.Be.{length-be, be-round}
 use Rattle.options.specs.declared.lcp.Lcp.{Lcp}
+use Rattle.options.specs.declared.proto.Proto.the-variants.{Lcp as OfLcp}
 use Rattle.options.specs.declared.proto.Verdict.the-variants.{Ack}
 use Rattle.papers.specs.Rfc1661.{Option}
 use Rattle.papers.specs.Rfc1662Options.{AsyncMap, bitFor}
-use Rattle.options.specs.Lcp.{ownLcp, judgeLcp, judgedLcp, withRemote, lcpNacked}
+use Rattle.options.specs.Lcp.{ownLcp, judgeLcp, judgedLcp, withRemote}
+use Rattle.options.specs.Proto.{ownNacked}
 use Rattle.papers.proofs.Octets.{four-octets}
 use Rattle.papers.proofs.Layouts1661.{optionAs, Field, laid-field}
 
@@ -25,6 +27,10 @@ laid-map p h =
     (record { small = h; type = refl; value = four-octets (p .asyncmap) h })
 
 -- ---- what is read
+
+abbrev pub takenMap : Bool → Lcp → ℕ → Lcp
+takenMap true p m = record { auth = p .auth; «asyncmap_remote» = p .«asyncmap_remote»; asyncmap = p .asyncmap; «asyncmap_rej» = true }
+takenMap false p m = record { auth = p .auth; «asyncmap_remote» = p .«asyncmap_remote»; asyncmap = m; «asyncmap_rej» = p .«asyncmap_rej» }
 
 module _ {o : Option} {m : ℕ} (x : AsyncMap o m) where
   -- its data by our own fields
@@ -59,12 +65,8 @@ module _ {o : Option} {m : ℕ} (x : AsyncMap o m) where
   pub judge-map : (p : Lcp) (s : List ℕ) → judgeLcp p (o .type) (o .value) s ≡ judgedLcp Ack (withRemote p m)
   judge-map p s = rw (x .type, map-length, map-number) refl
 
-  -- as a Nak suggests another
-  pub nak-map : (p : Lcp) → lcpNacked p (o .type) (o .value) false
-      ≡ record { auth = p .auth; «asyncmap_remote» = p .«asyncmap_remote»; asyncmap = m; «asyncmap_rej» = p .«asyncmap_rej» }
-  nak-map p = rw (x .type, map-length, map-number) refl
-
-  -- as a Reject drops it
-  pub reject-map : (p : Lcp) → lcpNacked p (o .type) (o .value) true
-      ≡ record { auth = p .auth; «asyncmap_remote» = p .«asyncmap_remote»; asyncmap = p .asyncmap; «asyncmap_rej» = true }
-  reject-map p = rw (x .type) refl
+  -- as a Reject drops it, or as a Nak suggests another
+  pub take-map : (rej : Bool) (p : Lcp) → ownNacked (OfLcp p) (o .type) (o .value) rej ≡ OfLcp (takenMap rej p m)
+  unfolding ownNacked
+  take-map true p = rw (x .type) refl
+  take-map false p = rw (x .type, map-length, map-number) refl

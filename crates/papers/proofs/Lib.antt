@@ -8,3 +8,7 @@ pub mod Layouts1332
 pub mod Layouts1334
 pub mod Verdicts
 pub mod Answers
+pub mod Sending
+pub mod Judging
+pub mod Replying
+pub mod JudgingPap

@@ -1,0 +1,104 @@
+-- How an automaton answers a Configure-Request of RFC 1661: the code of the reply is the paper's for its verdict (5.2 to 5.4).
+-- Assumes nothing.
+use Prim.Native.Nat.{ℕ, _+_, _≤_, _<_}
+use mathlib.Core.Path.{_≡_, refl, subst, _∙_}
+use mathlib.Core.Bool.{Bool, true, false, cond, false≢true}
+use mathlib.Core.List.{List, [], _∷_}
+use borrow.Author.Tests.{le-ltb}
+use native.Mathlib.Omega.{arith}
+use lib.ListN.{length, length-take}
+use Rattle.laws.proofs.Cases.{cond-by}
+use Rattle.options.specs.declared.proto.Proto.{Proto}
+use Rattle.options.specs.declared.proto.Proto.the-variants.{Lcp, Ipv4cp}
+use Rattle.options.specs.declared.proto.Verdict.{Verdict}
+use Rattle.options.specs.declared.proto.Verdict.the-variants.{Ack, Nack, Rej}
+use Rattle.options.specs.declared.refusal.Outcome.{Outcome}
+use Rattle.options.specs.declared.refusal.Outcome.the-variants.{Done, Refused}
+use Rattle.options.specs.declared.walk.Reply.{Reply}
+use Rattle.negotiation.specs.declared.option_fsm.OptionFsm.{OptionFsm}
+use Rattle.papers.specs.Rfc1661.{Carried, configureRequest, configureAck, configureNak, configureReject, Option, Options}
+use Rattle.options.specs.Refusal.{isDone}
+use Rattle.options.specs.Wire.{packetOf, contentOf}
+use Rattle.options.specs.Options.{walkOf}
+use Rattle.options.specs.Proto.{protocolOf, startOf}
+use Rattle.options.proofs.Fair.{length-packet, fair-answer}
+use Rattle.negotiation.specs.Automaton.{isClosed, isOpened, Turn, requestBytes, requested, codeOf, replyBytes, afterReply, repliedTurn, unless, reqWith, reqOf, actOf, handleOf}
+use Rattle.papers.proofs.Packets.{Sent}
+use Rattle.papers.proofs.Verdicts.{verdictOf, judgedAll}
+use Rattle.papers.proofs.Answers.{answers, Top, replyTo, reply-top, reply-options, reply-proto, reply-ack}
+use Rattle.papers.proofs.Sending.{numberFor, number-kind, sent-by}
+use Rattle.papers.proofs.Judging.{by-code, data-of}
+
+abbrev pub answerCode : Verdict → ℕ
+answerCode Ack = configureAck
+answerCode Nack = configureNak
+answerCode Rej = configureReject
+
+answer-code : (p : Proto) (v : Verdict) (i : ℕ) (d : List ℕ) → i < 256 → length d + 4 < 65536
+    → Sent (packetOf (protocolOf p) (codeOf v) i d) (numberFor p) (answerCode v) i d
+answer-code p Ack i d h k = sent-by p configureAck i d (omega arith) h k
+answer-code p Nack i d h k = sent-by p configureNak i d (omega arith) h k
+answer-code p Rej i d h k = sent-by p configureReject i d (omega arith) h k
+
+-- what f sends and leaves for the options os, laid out in request, that came with the id i
+pub record Replied (f : OptionFsm) (i : ℕ) (request : List ℕ) (os : List Option) (t : Turn) : Type 0 where
+  pub verdict : Verdict
+  pub info : List ℕ
+  pub bytes : List ℕ
+  -- the options whose verdict is the reply's, and no option has a higher one
+  pub packet : Sent bytes (numberFor (f .proto)) (answerCode verdict) i info
+  pub listed : Options info (answers (verdictOf (f .proto)) verdict os)
+  pub top : Top (verdictOf (f .proto)) verdict os
+  -- an Ack is the request's bytes
+  pub acked : verdict ≡ Ack → info ≡ request
+  -- what the options change
+  pub proto : t .fsm .proto ≡ judgedAll (startOf (f .proto)) os
+  -- from Opened an own request follows
+  pub sent : t .sent ≡ bytes ∷ cond (isOpened (f .state)) (requestBytes (record { id = f .id; state = f .state; proto = t .fsm .proto }) ∷ []) []
+
+done-with : (o : Outcome) (f : OptionFsm) (t : Turn) → isDone (unless o f t .outcome) ≡ true → o ≡ Done
+done-with Done f t d = refl
+done-with (Refused why) f t d = absurd (false≢true d)
+
+start-verdict : (p : Proto) → verdictOf (startOf p) ≡ verdictOf p
+start-verdict (Lcp p) = refl
+start-verdict (Ipv4cp p) = refl
+
+module _ (f : OptionFsm) (i : ℕ) (b : i < 256) {request : List ℕ} {os : List Option} (l : Options request os)
+    (e : replyTo (startOf (f .proto)) request .outcome ≡ Done) where
+  replied : Replied f i request os (repliedTurn f i (replyTo (startOf (f .proto)) request))
+  unfolding requested
+  replied =
+      let q = startOf (f .proto) in
+      let r = replyTo q request in
+      let d : isDone (r .outcome) ≡ true = rw e refl in
+      let v = start-verdict (f .proto) in
+      let fair = fair-answer (f .proto) (walkOf request) in
+      let n : length (contentOf (r .packet)) + 4 < 65536 =
+      omega (arith, length-take (r .packet .len) (r .packet .bytes), fair .ready .most, fair .ready .room) in
+      let x = answer-code (r .proto) (r .verdict) i (contentOf (r .packet)) b n in
+      let made : (t : Turn) → t .fsm .proto ≡ r .proto
+      → t .sent ≡ replyBytes i r ∷ cond (isOpened (f .state)) (requestBytes (record { id = f .id; state = f .state; proto = r .proto }) ∷ []) []
+      → Replied f i request os t = λ t y z.
+      record {
+        verdict = r .verdict;
+        info = contentOf (r .packet);
+        bytes = replyBytes i r;
+        packet = subst (λ (m : ℕ). Sent (replyBytes i r) m (answerCode (r .verdict)) i (contentOf (r .packet))) (number-kind (r .proto) (f .proto) (fair .kind)) x;
+        listed = rw v at (reply-options q l d);
+        top = rw v at (reply-top q l d);
+        acked = reply-ack q l d;
+        proto = y ∙ reply-proto q l d;
+        sent = rw y z;
+      } in
+      cond-by (Replied f i request os) (isOpened (f .state)) (λ o. made _ refl (rw o refl)) (λ o. made _ refl (rw o refl))
+
+pub takes-request : (f : OptionFsm) → isClosed (f .state) ≡ false → {bytes request : List ℕ} {p i : ℕ} {os : List Option} → Carried bytes p configureRequest i request
+    → Options request os → isDone (handleOf f bytes .outcome) ≡ true → Replied f i request os (handleOf f bytes)
+unfolding actOf reqOf reqWith
+takes-request f n {bytes} {request} {p} {i} k l d =
+    let r = replyTo (startOf (f .proto)) request in
+    let h : 6 ≤ length (packetOf p 1 i request) = omega (arith, length-packet p 1 i request) in
+    let t : handleOf f bytes ≡ unless (r .outcome) f (repliedTurn f i r) = by-code f k ∙ rw (n, le-ltb _ _ h, data-of p 1 i request) refl in
+    let e : r .outcome ≡ Done = done-with (r .outcome) f (repliedTurn f i r) (rw t at d) in
+    rw (t, e) (replied f i (k .packet .id-octet) l e)
