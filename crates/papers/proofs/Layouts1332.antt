@@ -1,7 +1,7 @@
 -- IPv4CP's options that carry an address are RFC 1332's and RFC 1877's: as they are asked for, judged, and changed by a Nak or a Reject.
 -- Assumes nothing.
 use Prim.Native.Nat.{ℕ, _<_}
-use mathlib.Core.Path.{_≡_, refl, sym, _∙_}
+use mathlib.Core.Path.{_≡_, refl, ap, sym, _∙_}
 use mathlib.Core.Bool.{Bool, true, false}
 use mathlib.Core.List.{List}
 use native.Mathlib.Omega.{arith}
@@ -11,6 +11,7 @@ use Rattle.laws.specs.Each.{Bytes}
 use Rattle.laws.proofs.Be.{be-round, be-less, be-again, length-be}
 use Rattle.options.specs.declared.ipv4cp.IpOption.{IpOption}
 use Rattle.options.specs.declared.ipv4cp.Ipv4cp.{Ipv4cp}
+use Rattle.options.specs.declared.proto.Proto.{Proto}
 use Rattle.options.specs.declared.proto.Proto.the-variants.{Ipv4cp as OfIpv4cp}
 use Rattle.options.specs.declared.proto.Verdict.the-variants.{Ack}
 use Rattle.papers.specs.Rfc1661.{Option}
@@ -49,7 +50,7 @@ module _ {t a : ℕ} {o : Option} (x : Address t o a) where
 -- the peer's address: acked, and stored
 pub judge-address : (p : Ipv4cp) {o : Option} {a : ℕ} → IpAddress o a
     → judgeIpv4cp p (o .type) (o .value) ≡ record { verdict = Ack; ipv4cp = withPeer p a }
-judge-address p x = rw (x .type, address-length x, address-number x) refl
+judge-address p x = rw (address-length x, address-number x, x .type) refl
 
 -- an own address as a Reject drops it, or as a Nak suggests another
 abbrev pub takenAddress : Bool → IpOption → ℕ → IpOption
@@ -61,18 +62,21 @@ taken-address true q x = refl
 taken-address false q x = rw (address-length x, address-number x) refl
 
 -- each of the three changes its own, and no other
-module _ (rej : Bool) (p : Ipv4cp) {o : Option} {a : ℕ} where
-  pub take-ip : IpAddress o a → ownNacked (OfIpv4cp p) (o .type) (o .value) rej
-      ≡ OfIpv4cp (record { «peer_address» = p .«peer_address»; address = takenAddress rej (p .address) a; «dns_server_1» = p .«dns_server_1»; «dns_server_2» = p .«dns_server_2» })
-  unfolding ownNacked
-  take-ip x = rw (x .type, taken-address rej (p .address) x) refl
+abbrev pub withOwn : Ipv4cp → IpOption → IpOption → IpOption → Proto
+withOwn p a b c = OfIpv4cp (record { «peer_address» = p .«peer_address»; address = a; «dns_server_1» = b; «dns_server_2» = c })
 
-  pub take-dns1 : PrimaryDns o a → ownNacked (OfIpv4cp p) (o .type) (o .value) rej
-      ≡ OfIpv4cp (record { «peer_address» = p .«peer_address»; address = p .address; «dns_server_1» = takenAddress rej (p .«dns_server_1») a; «dns_server_2» = p .«dns_server_2» })
+module _ (rej : Bool) (p : Ipv4cp) {o : Option} {n : ℕ} where
+  pub take-ip : IpAddress o n
+      → ownNacked (OfIpv4cp p) (o .type) (o .value) rej ≡ withOwn p (takenAddress rej (p .address) n) (p .«dns_server_1») (p .«dns_server_2»)
   unfolding ownNacked
-  take-dns1 x = rw (x .type, taken-address rej (p .«dns_server_1») x) refl
+  take-ip x = rw (x .type) (ap (λ (q : IpOption). withOwn p q (p .«dns_server_1») (p .«dns_server_2»)) (taken-address rej (p .address) x))
 
-  pub take-dns2 : SecondaryDns o a → ownNacked (OfIpv4cp p) (o .type) (o .value) rej
-      ≡ OfIpv4cp (record { «peer_address» = p .«peer_address»; address = p .address; «dns_server_1» = p .«dns_server_1»; «dns_server_2» = takenAddress rej (p .«dns_server_2») a })
+  pub take-dns1 : PrimaryDns o n
+      → ownNacked (OfIpv4cp p) (o .type) (o .value) rej ≡ withOwn p (p .address) (takenAddress rej (p .«dns_server_1») n) (p .«dns_server_2»)
   unfolding ownNacked
-  take-dns2 x = rw (x .type, taken-address rej (p .«dns_server_2») x) refl
+  take-dns1 x = rw (x .type) (ap (λ (q : IpOption). withOwn p (p .address) q (p .«dns_server_2»)) (taken-address rej (p .«dns_server_1») x))
+
+  pub take-dns2 : SecondaryDns o n
+      → ownNacked (OfIpv4cp p) (o .type) (o .value) rej ≡ withOwn p (p .address) (p .«dns_server_1») (takenAddress rej (p .«dns_server_2») n)
+  unfolding ownNacked
+  take-dns2 x = rw (x .type) (ap (λ (q : IpOption). withOwn p (p .address) (p .«dns_server_1») q) (taken-address rej (p .«dns_server_2») x))

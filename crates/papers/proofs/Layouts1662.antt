@@ -63,10 +63,10 @@ module _ {o : Option} {m : ℕ} (x : AsyncMap o m) where
 
   -- as the peer offers it: acked, and its number is the one stored
   pub judge-map : (p : Lcp) (s : List ℕ) → judgeLcp p (o .type) (o .value) s ≡ judgedLcp Ack (withRemote p m)
-  judge-map p s = rw (x .type, map-length, map-number) refl
+  judge-map p s = rw (map-length, map-number, x .type) refl
 
   -- as a Reject drops it, or as a Nak suggests another
   pub take-map : (rej : Bool) (p : Lcp) → ownNacked (OfLcp p) (o .type) (o .value) rej ≡ OfLcp (takenMap rej p m)
   unfolding ownNacked
   take-map true p = rw (x .type) refl
-  take-map false p = rw (x .type, map-length, map-number) refl
+  take-map false p = rw (map-length, map-number, x .type) refl

@@ -62,7 +62,7 @@ judged-proto (OfIpv4cp p) c d = refl
 -- for PAP it is acked, and PAP is what is asked for
 pub judge-pap : (p : Lcp) {o : Option} → PapOption o → judgeLcp p (o .type) (o .value) suggestion ≡ judgedLcp Ack (withPap p)
 unfolding same
-judge-pap p x = rw (x .type, x .value) refl
+judge-pap p x = rw (x .value, x .type) refl
 
 -- in any other way it is nacked
 judge-else : (p : Lcp) (o : Option) → o .type ≡ 3 → (PapOption o → ⊥) → judgeLcp p (o .type) (o .value) suggestion ≡ judgedLcp Nack p
