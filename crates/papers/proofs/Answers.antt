@@ -1,18 +1,18 @@
--- The options sent back are the request's (RFC 1661, 5.2 to 5.4): those whose verdict is the reply's, in order, and under an Ack all of them.
+-- The reply to a request holds what its options call for: each one joins it, clears it, is left out, or is refused.
 -- Assumes nothing.
-use Prim.Native.Nat.{ℕ, _+_, _≤_, _<_}
+use Prim.Native.Nat.{ℕ, _≤_, _<_}
 use mathlib.Core.Path.{_≡_, refl, ap, sym, subst, _∙_}
-use mathlib.Core.Bool.{Bool, true, false, cond, _&&_, true≢false, false≢true}
+use mathlib.Core.Bool.{Bool, true, false, cond, true≢false, false≢true}
 use mathlib.Core.List.{List, [], _∷_, _++_, append-assoc, append-nil}
 use borrow.Author.Tests.{eq-eqb, ne-eqb, ltb-true, ltb-false}
 use native.Mathlib.Omega.{arith}
 use lib.Dec.{eqb, ltb, leb}
 use lib.ListN.{length}
-use Rattle.laws.proofs.Cases.{by-test, cond-by, cond-ap}
+use Rattle.laws.proofs.Cases.{by-test, cond-by}
 use Rattle.options.specs.declared.walk.Reply.{Reply}
 use Rattle.options.specs.declared.proto.Proto.{Proto}
 use Rattle.options.specs.declared.proto.Verdict.{Verdict}
-use Rattle.options.specs.declared.proto.Verdict.the-variants.{Ack, Nack, Rej}
+use Rattle.options.specs.declared.proto.Verdict.the-variants.{Ack}
 use Rattle.papers.specs.Rfc1661.{Option, Options, none}
 use Rattle.options.specs.Refusal.{isDone}
 use Rattle.options.specs.Wire.{contentOf}
@@ -20,25 +20,12 @@ use Rattle.options.specs.Options.{optBytes, sentBack, Walk, done, cut, opt, wal
 use Rattle.options.specs.Proto.{judgeOf, ownNacked, nacksOf}
 use Rattle.options.specs.Reply.{rankOf, freshReply, suggestion, listedOf, stepOf, replyOf}
 use Rattle.options.proofs.Wires.{content-pkt}
-use Rattle.papers.proofs.Layouts1661.{optionAs, laid-one, laid-both, bytesOf, options-bytes}
+use Rattle.papers.proofs.Layouts1661.{laid-one, laid-both, bytesOf, options-bytes}
 use Rattle.papers.proofs.Walked.{walkOptions, walk-options, isWhole, Typed, options-typed}
+use Rattle.papers.proofs.Listed.{answerTo, answers, Top, acked-all}
 use Rattle.papers.proofs.Verdicts.{verdictOf, judged-verdict, judged-proto, judgedAll}
 
--- ---- the options that a reply of verdict v holds
-
-module _ (f : ℕ → List ℕ → Verdict) where
-  -- an option as it is sent back
-  abbrev pub answerTo : Option → Option
-  answerTo o = optionAs (o .type) (sentBack (f (o .type) (o .value)) (o .value) suggestion)
-
-  abbrev pub answers : Verdict → List Option → List Option
-  answers v [] = []
-  answers v (o ∷ os) = cond (eqb (rankOf (f (o .type) (o .value))) (rankOf v)) (answerTo o ∷ answers v os) (answers v os)
-
-  -- no option has a higher verdict
-  abbrev pub Top : Verdict → List Option → Type 0
-  Top v [] = Unit {0}
-  Top v (o ∷ os) = (rankOf (f (o .type) (o .value)) ≤ rankOf v) × Top v os
+-- ---- an option joins a reply
 
 -- what one option leaves: refused, not listed, alone, or one more; d is the value to be sent back
 data Stepped (r s : Reply) (p : Proto) (v : Verdict) (c : ℕ) (d : List ℕ) : Type 0 where
@@ -152,19 +139,6 @@ answered-proto (o ∷ os) r d =
 no-list : (t : Bool) (l : List Option) → cond t [] [] ++ l ≡ l
 no-list true l = refl
 no-list false l = refl
-
--- an Ack sends a value back as it came
-acked-value : (v : Verdict) (d s : List ℕ) → rankOf v ≤ 0 → sentBack v d s ≡ d
-acked-value Ack d s h = refl
-acked-value Nack d s h = absurd (omega arith)
-acked-value Rej d s h = refl
-
-acked-all : (f : ℕ → List ℕ → Verdict) (os : List Option) → Top f Ack os → answers f Ack os ≡ os
-acked-all f [] t = refl
-acked-all f (o ∷ os) t =
-    let v = f (o .type) (o .value) in
-    let e : rankOf v ≡ 0 = omega (arith, t .0) in
-    rw (eq-eqb (rankOf v) 0 e, acked-value v (o .value) suggestion (t .0), acked-all f os (t .1)) refl
 
 -- the reply to the options s from a fresh start
 abbrev pub replyTo : Proto → List ℕ → Reply

@@ -1,8 +1,8 @@
 -- How an automaton takes a received packet of RFC 1661, by the paper's code: what it sends, and what it leaves.
 -- Assumes nothing.
-use Prim.Native.Nat.{ℕ, _+_, _≤_, _<_}
-use mathlib.Core.Path.{_≡_, refl, ap, sym, _∙_}
-use mathlib.Core.Bool.{Bool, true, false, cond, false≢true}
+use Prim.Native.Nat.{ℕ, _≤_, _<_}
+use mathlib.Core.Path.{_≡_, refl, _∙_}
+use mathlib.Core.Bool.{Bool, true, false}
 use mathlib.Core.List.{List, [], _∷_}
 use borrow.Author.Tests.{le-ltb, ne-eqb}
 use native.Mathlib.Omega.{arith}
@@ -14,9 +14,10 @@ use Rattle.options.specs.declared.refusal.Outcome.the-variants.{Done}
 use Rattle.negotiation.specs.declared.option_fsm.OptionFsm.{OptionFsm}
 use Rattle.papers.specs.Rfc1661.{Carried, configureAck, configureNak, configureReject, terminateRequest, terminateAck, codeReject, protocolReject, echoRequest, echoReply, discardRequest, Option, Options}
 use Rattle.options.specs.Wire.{packetOf}
+use Rattle.options.specs.Options.{walkOf}
 use Rattle.options.specs.Proto.{protocolOf, ownNacked, nacksOf}
 use Rattle.options.proofs.Fair.{length-packet}
-use Rattle.negotiation.specs.Automaton.{afterTerm, isClosed, isOpened, Turn, turned, withState, requested, ackOf, afterNacked, nackWith, nackOf, termAckOf, ignoredTurn, echoBytes, echoOf, actOf, handleOf}
+use Rattle.negotiation.specs.Automaton.{afterTerm, isClosed, isOpened, turned, withState, requested, ackOf, afterNacked, nackWith, nackOf, termAckOf, ignoredTurn, echoOf, actOf, handleOf}
 use Rattle.papers.proofs.Packets.{Sent, read-as}
 use Rattle.papers.proofs.Walked.{walkOptions, walk-options}
 use Rattle.papers.proofs.Sending.{numberFor, sent-by}
@@ -59,25 +60,36 @@ unfolding nacksOf
 taken-up rej p [] = refl
 taken-up rej p (o ∷ os) = taken-up rej (ownNacked p (o .type) (o .value) rej) os
 
-take-list : (f : OptionFsm) (rej : Bool) (p c i : ℕ) {info : List ℕ} {os : List Option} → Options info os
-    → nackOf f rej (packetOf p c i info) ≡ requested (afterNacked f (takenUp rej (f .proto) os)) []
-unfolding nackOf nackWith
-take-list f rej p c i {info} {os} l =
+-- a list of the paper is not refused
+taken : (f : OptionFsm) (rej : Bool) {info : List ℕ} {os : List Option} → Options info os
+    → nackWith f (nacksOf rej (f .proto) (walkOf info)) ≡ requested (afterNacked f (takenUp rej (f .proto) os)) []
+unfolding nackWith
+taken f rej {info} {os} l = rw (walk-options 0 l, taken-up rej (f .proto) os) refl
+
+in-list : (f : OptionFsm) (rej : Bool) (p c i : ℕ) (info : List ℕ) → nackOf f rej (packetOf p c i info) ≡ nackWith f (nacksOf rej (f .proto) (walkOf info))
+unfolding nackOf
+in-list f rej p c i info =
     let h : 6 ≤ length (packetOf p c i info) = omega (arith, length-packet p c i info) in
-    rw (le-ltb _ _ h, data-of p c i info, walk-options 0 l, taken-up rej (f .proto) os) refl
+    rw (le-ltb _ _ h, data-of p c i info) refl
 
 module _ (f : OptionFsm) (n : isClosed (f .state) ≡ false) {bytes info : List ℕ} {p i : ℕ} where
+  pub by-nak : Carried bytes p configureNak i info → handleOf f bytes ≡ nackWith f (nacksOf false (f .proto) (walkOf info))
+  unfolding actOf
+  by-nak k = by-code f k ∙ rw n (in-list f false p configureNak i info)
+
+  pub by-reject : Carried bytes p configureReject i info → handleOf f bytes ≡ nackWith f (nacksOf true (f .proto) (walkOf info))
+  unfolding actOf
+  by-reject k = by-code f k ∙ rw n (in-list f true p configureReject i info)
+
   -- the values that a Nak has replace the own ones
   pub takes-nak : {os : List Option} → Carried bytes p configureNak i info → Options info os
       → handleOf f bytes ≡ requested (afterNacked f (takenUp false (f .proto) os)) []
-  unfolding actOf
-  takes-nak k l = by-code f k ∙ rw n (take-list f false p 3 i l)
+  takes-nak k l = by-nak k ∙ taken f false l
 
   -- the options that a Reject has are dropped
   pub takes-reject : {os : List Option} → Carried bytes p configureReject i info → Options info os
       → handleOf f bytes ≡ requested (afterNacked f (takenUp true (f .proto) os)) []
-  unfolding actOf
-  takes-reject k l = by-code f k ∙ rw n (take-list f true p 4 i l)
+  takes-reject k l = by-reject k ∙ taken f true l
 
   -- ---- Configure-Ack
 

@@ -3,7 +3,7 @@
 use Prim.Native.Nat.{ℕ, zero, suc, _+_, _-_, _*_, _/_, _%_, _^_, _<_}
 use mathlib.Core.Path.{_≡_, refl, ap, sym, _∙_}
 use mathlib.Core.Bool.{Bool, true, false}
-use mathlib.Core.List.{List, [], _∷_}
+use mathlib.Core.List.{List}
 use native.Mathlib.Omega.{arith}
 use lib.ListN.{length, getD}
 use lib.Pow.{shr-shr, field, mod-mod-pow}
@@ -17,7 +17,7 @@ use Rattle.papers.specs.Rfc1662Options.{AsyncMap, bitFor}
 use Rattle.options.specs.Lcp.{ownLcp, judgeLcp, judgedLcp, withRemote}
 use Rattle.options.specs.Proto.{ownNacked}
 use Rattle.papers.proofs.Octets.{four-octets}
-use Rattle.papers.proofs.Layouts1661.{optionAs, Field, laid-field}
+use Rattle.papers.proofs.Layouts1661.{Field, laid-field}
 
 -- ---- what is written
 

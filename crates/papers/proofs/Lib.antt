@@ -7,8 +7,11 @@ pub mod Layouts1662
 pub mod Layouts1332
 pub mod Layouts1334
 pub mod Verdicts
+pub mod Listed
 pub mod Answers
 pub mod Sending
 pub mod Judging
 pub mod Replying
 pub mod JudgingPap
+pub mod Fitting
+pub mod Received

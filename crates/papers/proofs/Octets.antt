@@ -1,7 +1,7 @@
 -- Our fields of two and four bytes are the papers' octets.
 -- Assumes nothing.
 use mathlib.Core.Path.{_≡_, refl}
-use mathlib.Core.List.{List, [], _∷_}
+use mathlib.Core.List.{[], _∷_}
 use Prim.Native.Nat.{ℕ, _/_, _%_, _<_}
 use native.Mathlib.Omega.{arith}
 use Rattle.laws.specs.Be.{beBytes}

@@ -1,6 +1,6 @@
 -- What is sent is laid out as RFC 1661, section 5, has it, and what is so laid out is read as it says.
 -- Assumes nothing.
-use mathlib.Core.Path.{_≡_, refl, ap, _∙_}
+use mathlib.Core.Path.{_≡_, refl, ap, sym, _∙_}
 use mathlib.Core.List.{List, [], _∷_, _++_, append-nil}
 use Prim.Native.Nat.{ℕ, _+_, _≤_, _<_}
 use native.Mathlib.Omega.{arith}
@@ -8,7 +8,7 @@ use lib.ListN.{length, take, drop, getD, length-append}
 use lib.Seq.{take-append-seam, take-append-add}
 use Rattle.laws.specs.Be.{beBytes}
 use Rattle.laws.proofs.Be.{be-round}
-use Rattle.papers.specs.Rfc1661.{twoOctets, Encapsulated, Packet, Carried}
+use Rattle.papers.specs.Rfc1661.{twoOctets, Carried}
 use Rattle.options.specs.Wire.{packetOf, protocolIn, lengthField}
 use Rattle.papers.proofs.Octets.{two-octets}
 
@@ -72,3 +72,10 @@ read-as {bytes} {d} {p} {c} {i} x =
       cut = rw (m, s, t) refl;
       info = rw (m, s, t) refl;
     }
+
+-- so the paper reads bytes in one way only
+pub carried-once : {bytes d e : List ℕ} {p c i q k j : ℕ} → Carried bytes p c i d → Carried bytes q k j e → (p ≡ q) × (c ≡ k) × (i ≡ j) × (d ≡ e)
+carried-once x y =
+    let r = read-as x in
+    let s = read-as y in
+    (sym (r .protocol) ∙ s .protocol, sym (r .code) ∙ s .code, sym (r .id) ∙ s .id, sym (r .info) ∙ s .info)

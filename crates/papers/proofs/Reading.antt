@@ -34,9 +34,12 @@ pub record ReadWith (s info padding : List ℕ) : Type 0 where
   pub carried : Carried s (protocolIn s) (getD s 2 0) (getD s 3 0) info
   pub behind : carried .packet .padding ≡ padding
 
--- and with the data that it reads, up to the Length
+-- the data that it reads, up to the Length
+abbrev pub dataIn : List ℕ → List ℕ
+dataIn s = drop 6 (take (lengthField s + 2) s)
+
 abbrev pub Read : List ℕ → Type 0
-Read s = ReadWith s (drop 6 (take (lengthField s + 2) s)) (drop (lengthField s + 2) s)
+Read s = ReadWith s (dataIn s) (drop (lengthField s + 2) s)
 
 pub reads-packet : (s : List ℕ) → Bytes s → Readable s → Read s
 unfolding beFrom
@@ -78,3 +81,13 @@ pub packet-readable : {s d : List ℕ} {p c i : ℕ} → Carried s p c i d → R
 packet-readable x =
     let r = read-as x in
     record { head = omega (arith, r .count, r .within); least = omega (arith, r .count); within = r .within }
+
+-- the data are bytes as well
+pub each-left : (a b : List ℕ) → Bytes (a ++ b) → Bytes a
+each-left [] b h = tt
+each-left (x ∷ a) b h = (h .0, each-left a b (h .1))
+
+pub data-bytes : {s d : List ℕ} {p c i : ℕ} → Carried s p c i d → Bytes s → Bytes d
+data-bytes {s} {d} x b =
+    let u = rw (x .packet .laid) at (rw (x .encapsulated .laid) at b) in
+    each-left d (x .packet .padding) (u .1 .1 .1 .1 .1 .1)

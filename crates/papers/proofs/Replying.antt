@@ -2,7 +2,7 @@
 -- Assumes nothing.
 use Prim.Native.Nat.{ℕ, _+_, _≤_, _<_}
 use mathlib.Core.Path.{_≡_, refl, subst, _∙_}
-use mathlib.Core.Bool.{Bool, true, false, cond, false≢true}
+use mathlib.Core.Bool.{true, false, cond, false≢true}
 use mathlib.Core.List.{List, [], _∷_}
 use borrow.Author.Tests.{le-ltb}
 use native.Mathlib.Omega.{arith}
@@ -14,7 +14,6 @@ use Rattle.options.specs.declared.proto.Verdict.{Verdict}
 use Rattle.options.specs.declared.proto.Verdict.the-variants.{Ack, Nack, Rej}
 use Rattle.options.specs.declared.refusal.Outcome.{Outcome}
 use Rattle.options.specs.declared.refusal.Outcome.the-variants.{Done, Refused}
-use Rattle.options.specs.declared.walk.Reply.{Reply}
 use Rattle.negotiation.specs.declared.option_fsm.OptionFsm.{OptionFsm}
 use Rattle.papers.specs.Rfc1661.{Carried, configureRequest, configureAck, configureNak, configureReject, Option, Options}
 use Rattle.options.specs.Refusal.{isDone}
@@ -22,10 +21,11 @@ use Rattle.options.specs.Wire.{packetOf, contentOf}
 use Rattle.options.specs.Options.{walkOf}
 use Rattle.options.specs.Proto.{protocolOf, startOf}
 use Rattle.options.proofs.Fair.{length-packet, fair-answer}
-use Rattle.negotiation.specs.Automaton.{isClosed, isOpened, Turn, requestBytes, requested, codeOf, replyBytes, afterReply, repliedTurn, unless, reqWith, reqOf, actOf, handleOf}
+use Rattle.negotiation.specs.Automaton.{isClosed, isOpened, Turn, requestBytes, requested, codeOf, replyBytes, repliedTurn, unless, reqWith, reqOf, actOf, handleOf}
 use Rattle.papers.proofs.Packets.{Sent}
 use Rattle.papers.proofs.Verdicts.{verdictOf, judgedAll}
-use Rattle.papers.proofs.Answers.{answers, Top, replyTo, reply-top, reply-options, reply-proto, reply-ack}
+use Rattle.papers.proofs.Listed.{answers, Top}
+use Rattle.papers.proofs.Answers.{replyTo, reply-top, reply-options, reply-proto, reply-ack}
 use Rattle.papers.proofs.Sending.{numberFor, number-kind, sent-by}
 use Rattle.papers.proofs.Judging.{by-code, data-of}
 
@@ -56,7 +56,7 @@ pub record Replied (f : OptionFsm) (i : ℕ) (request : List ℕ) (os : List Opt
   -- from Opened an own request follows
   pub sent : t .sent ≡ bytes ∷ cond (isOpened (f .state)) (requestBytes (record { id = f .id; state = f .state; proto = t .fsm .proto }) ∷ []) []
 
-done-with : (o : Outcome) (f : OptionFsm) (t : Turn) → isDone (unless o f t .outcome) ≡ true → o ≡ Done
+pub done-with : (o : Outcome) (f : OptionFsm) (t : Turn) → isDone (unless o f t .outcome) ≡ true → o ≡ Done
 done-with Done f t d = refl
 done-with (Refused why) f t d = absurd (false≢true d)
 
@@ -93,12 +93,19 @@ module _ (f : OptionFsm) (i : ℕ) (b : i < 256) {request : List ℕ} {os : List
       } in
       cond-by (Replied f i request os) (isOpened (f .state)) (λ o. made _ refl (rw o refl)) (λ o. made _ refl (rw o refl))
 
-pub takes-request : (f : OptionFsm) → isClosed (f .state) ≡ false → {bytes request : List ℕ} {p i : ℕ} {os : List Option} → Carried bytes p configureRequest i request
-    → Options request os → isDone (handleOf f bytes .outcome) ≡ true → Replied f i request os (handleOf f bytes)
-unfolding actOf reqOf reqWith
-takes-request f n {bytes} {request} {p} {i} k l d =
-    let r = replyTo (startOf (f .proto)) request in
-    let h : 6 ≤ length (packetOf p 1 i request) = omega (arith, length-packet p 1 i request) in
-    let t : handleOf f bytes ≡ unless (r .outcome) f (repliedTurn f i r) = by-code f k ∙ rw (n, le-ltb _ _ h, data-of p 1 i request) refl in
-    let e : r .outcome ≡ Done = done-with (r .outcome) f (repliedTurn f i r) (rw t at d) in
-    rw (t, e) (replied f i (k .packet .id-octet) l e)
+module _ (f : OptionFsm) (n : isClosed (f .state) ≡ false) {bytes request : List ℕ} {p i : ℕ} (k : Carried bytes p configureRequest i request) where
+  pub by-request : handleOf f bytes ≡ reqWith f i (replyTo (startOf (f .proto)) request)
+  unfolding actOf reqOf
+  by-request =
+      let h : 6 ≤ length (packetOf p configureRequest i request) = omega (arith, length-packet p configureRequest i request) in
+      by-code f k ∙ rw (n, le-ltb _ _ h, data-of p configureRequest i request) refl
+
+  pub request-done : isDone (handleOf f bytes .outcome) ≡ true → replyTo (startOf (f .proto)) request .outcome ≡ Done
+  unfolding reqWith
+  request-done d = done-with (replyTo (startOf (f .proto)) request .outcome) f _ (rw by-request at d)
+
+  pub takes-request : {os : List Option} → Options request os → isDone (handleOf f bytes .outcome) ≡ true → Replied f i request os (handleOf f bytes)
+  unfolding reqWith
+  takes-request l d =
+      let e = request-done d in
+      rw (by-request, e) (replied f i (k .packet .id-octet) l e)

@@ -1,7 +1,7 @@
 -- What an automaton sends of its own accord is RFC 1661's, with the paper's number and code: Configure-Request and Protocol-Reject.
 -- Assumes nothing.
 use Prim.Native.Nat.{ℕ, _+_, _≤_, _<_}
-use mathlib.Core.Path.{_≡_, refl, ap, sym, _∙_}
+use mathlib.Core.Path.{_≡_, refl}
 use mathlib.Core.List.{List, [], _∷_, _++_}
 use borrow.Author.Tests.{le-ltb}
 use native.Mathlib.Omega.{arith}

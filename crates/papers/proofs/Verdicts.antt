@@ -4,13 +4,13 @@ use Prim.Native.Nat.{ℕ, _/_, _%_}
 use mathlib.Core.Path.{_≡_, refl, ap, sym, _∙_}
 use mathlib.Core.Bool.{Bool, true, false, cond, _&&_}
 use mathlib.Core.List.{List, [], _∷_, _++_}
-use borrow.Author.Tests.{eqb-true, ne-eqb}
+use borrow.Author.Tests.{ne-eqb}
 use native.Mathlib.Omega.{arith}
 use lib.Dec.{eqb}
 use lib.ListN.{length}
 use Rattle.laws.specs.Each.{Each}
 use Rattle.laws.specs.Same.{same}
-use Rattle.laws.proofs.Cases.{apart, by-test, cond-by, cond-all, cond-ap}
+use Rattle.laws.proofs.Cases.{by-test, cond-all, cond-ap}
 use Rattle.laws.proofs.Same.{same-eq}
 use Rattle.options.specs.declared.ipv4cp.Ipv4cpJudged.{Ipv4cpJudged}
 use Rattle.options.specs.declared.lcp.Lcp.{Lcp}
@@ -23,10 +23,8 @@ use Rattle.papers.specs.Rfc1661.{Option, AuthenticationProtocol}
 use Rattle.papers.specs.Rfc1662Options.{AsyncMap}
 use Rattle.papers.specs.Rfc1334.{pap, PapOption}
 use Rattle.options.specs.Lcp.{judgeLcp, judgedLcp, withPap}
-use Rattle.options.specs.Options.{sentBack}
 use Rattle.options.specs.Proto.{judgeOf}
 use Rattle.options.specs.Reply.{suggestion}
-use Rattle.papers.proofs.Layouts1661.{optionAs}
 use Rattle.papers.proofs.Layouts1662.{judge-map}
 
 -- ---- the verdict on an option, which no earlier option changes
@@ -81,16 +79,6 @@ judge-other p {o} {n} {needed} x k =
     let a : n / 256 ≡ 0xC0 = cc in
     let b : n % 256 ≡ 0x23 = cc in
     k (omega arith))
-
--- and what a Nak sends back is the option for PAP
-pub nak-suggests : (o : Option) → lcpVerdict (o .type) (o .value) ≡ Nack → PapOption (optionAs (o .type) (sentBack Nack (o .value) suggestion))
-nak-suggests o e =
-    let c = o .type in
-    let P : Verdict → Type 0 = λ v. v ≡ Nack → c ≡ 3 in
-    let t : c ≡ 3 =
-    cond-by P (eqb c 2) (λ _. cond-all P (eqb (length (o .value)) 4) (λ n. apart (cc)) (λ n. apart (cc)))
-    (λ _. cond-by P (eqb c 3) (λ h _. eqb-true c 3 h) (λ _ n. apart (cc))) e in
-    record { small = omega arith; type = t; value = refl }
 
 -- ---- the whole of a request
 
