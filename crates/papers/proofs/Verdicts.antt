@@ -21,11 +21,14 @@ use Rattle.options.specs.declared.proto.Verdict.{Verdict}
 use Rattle.options.specs.declared.proto.Verdict.the-variants.{Ack, Nack, Rej}
 use Rattle.papers.specs.Rfc1661.{Option, AuthenticationProtocol}
 use Rattle.papers.specs.Rfc1662Options.{AsyncMap}
+use Rattle.papers.specs.Rfc1332.{IpAddress}
 use Rattle.papers.specs.Rfc1334.{pap, PapOption}
-use Rattle.options.specs.Lcp.{judgeLcp, judgedLcp, withPap}
+use Rattle.options.specs.Ipv4cp.{freshIpv4cp}
+use Rattle.options.specs.Lcp.{freshLcp, judgeLcp, judgedLcp, withPap}
 use Rattle.options.specs.Proto.{judgeOf}
 use Rattle.options.specs.Reply.{suggestion}
 use Rattle.papers.proofs.Layouts1662.{judge-map}
+use Rattle.papers.proofs.Layouts1332.{judge-address}
 
 -- ---- the verdict on an option, which no earlier option changes
 
@@ -79,6 +82,25 @@ judge-other p {o} {n} {needed} x k =
     let a : n / 256 ≡ 0xC0 = cc in
     let b : n % 256 ≡ 0x23 = cc in
     k (omega arith))
+
+-- ---- the verdicts of the papers' options
+
+lcp-verdict : (o : Option) {v : Verdict} {p : Lcp} → judgeLcp freshLcp (o .type) (o .value) suggestion ≡ judgedLcp v p
+    → lcpVerdict (o .type) (o .value) ≡ v
+lcp-verdict o e = sym (judged-verdict (OfLcp freshLcp) (o .type) (o .value)) ∙ ap (λ (j : LcpJudged). j .verdict) e
+
+pub pap-acked : {o : Option} → PapOption o → lcpVerdict (o .type) (o .value) ≡ Ack
+pap-acked {o} x = lcp-verdict o (judge-pap freshLcp x)
+
+pub other-nacked : {o : Option} {n : ℕ} {needed : List ℕ} → AuthenticationProtocol o n needed → (n ≡ pap → ⊥) → lcpVerdict (o .type) (o .value) ≡ Nack
+other-nacked {o} x k = lcp-verdict o (judge-other freshLcp x k)
+
+pub map-acked : {o : Option} {m : ℕ} → AsyncMap o m → lcpVerdict (o .type) (o .value) ≡ Ack
+map-acked {o} x = lcp-verdict o (judge-map x freshLcp suggestion)
+
+pub address-acked : {o : Option} {a : ℕ} → IpAddress o a → ipv4cpVerdict (o .type) (o .value) ≡ Ack
+address-acked {o} x =
+    sym (judged-verdict (OfIpv4cp freshIpv4cp) (o .type) (o .value)) ∙ ap (λ (j : Ipv4cpJudged). j .verdict) (judge-address freshIpv4cp x)
 
 -- ---- the whole of a request
 
