@@ -23,9 +23,8 @@ reads-protocol (x ∷ y ∷ r) b h =
     let v : n % 256 ≡ y = omega (arith, b .1 .0) in
     record { small = omega (arith, b .0, b .1 .0); laid = rw (u, v) refl }
 
--- where the code goes on with a packet, and the paper has one
+-- a Length of 4 or more that ends within the bytes, of which there are 6 or more then
 pub record Readable (s : List ℕ) : Type 0 where
-  pub head : 6 ≤ length s
   pub least : 4 ≤ lengthField s
   pub within : lengthField s + 2 ≤ length s
 
@@ -43,12 +42,12 @@ Read s = ReadWith s (dataIn s) (drop (lengthField s + 2) s)
 
 pub reads-packet : (s : List ℕ) → Bytes s → Readable s → Read s
 unfolding beFrom
-reads-packet [] b h = absurd (omega (arith, h .head))
-reads-packet (p ∷ []) b h = absurd (omega (arith, h .head))
-reads-packet (p ∷ q ∷ []) b h = absurd (omega (arith, h .head))
-reads-packet (p ∷ q ∷ c ∷ []) b h = absurd (omega (arith, h .head))
-reads-packet (p ∷ q ∷ c ∷ i ∷ []) b h = absurd (omega (arith, h .head))
-reads-packet (p ∷ q ∷ c ∷ i ∷ x ∷ []) b h = absurd (omega (arith, h .head))
+reads-packet [] b h = absurd (omega (arith, h .least, h .within))
+reads-packet (p ∷ []) b h = absurd (omega (arith, h .least, h .within))
+reads-packet (p ∷ q ∷ []) b h = absurd (omega (arith, h .least, h .within))
+reads-packet (p ∷ q ∷ c ∷ []) b h = absurd (omega (arith, h .least, h .within))
+reads-packet (p ∷ q ∷ c ∷ i ∷ []) b h = absurd (omega (arith, h .least, h .within))
+reads-packet (p ∷ q ∷ c ∷ i ∷ x ∷ []) b h = absurd (omega (arith, h .least, h .within))
 reads-packet (p ∷ q ∷ c ∷ i ∷ x ∷ y ∷ r) b h =
     let top = p ∷ q ∷ c ∷ i ∷ x ∷ y ∷ [] in
     let s = top ++ r in
@@ -64,7 +63,7 @@ reads-packet (p ∷ q ∷ c ∷ i ∷ x ∷ y ∷ r) b h =
     rw (d, z) (record {
       carried = record {
         information = c ∷ i ∷ x ∷ y ∷ r;
-        encapsulated = reads-protocol s b (omega (arith, h .head));
+        encapsulated = reads-protocol s b (omega (arith, h .least, h .within));
         packet = record {
           padding = drop m r;
           code-octet = b .1 .1 .0;
@@ -80,7 +79,7 @@ reads-packet (p ∷ q ∷ c ∷ i ∷ x ∷ y ∷ r) b h =
 pub packet-readable : {s d : List ℕ} {p c i : ℕ} → Carried s p c i d → Readable s
 packet-readable x =
     let r = read-as x in
-    record { head = omega (arith, r .count, r .within); least = omega (arith, r .count); within = r .within }
+    record { least = omega (arith, r .count); within = r .within }
 
 -- the data are bytes as well
 pub each-left : (a b : List ℕ) → Bytes (a ++ b) → Bytes a

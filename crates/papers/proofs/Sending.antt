@@ -98,6 +98,10 @@ pub opened : (f : OptionFsm) → openedFsm f .sent ≡ requestBytes f ∷ []
 unfolding openedFsm requested
 opened f = refl
 
+-- the id of a request is another than the one before (RFC 1661, 5.1 and 5.7; RFC 1334, 2.2.1)
+pub id-changes : (i : ℕ) → i < 256 → nextId i ≡ i → ⊥
+id-changes i h e = omega arith
+
 -- ---- Protocol-Reject
 
 -- a packet of another protocol, encapsulated as the paper has it, goes back behind its number
