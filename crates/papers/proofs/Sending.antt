@@ -99,8 +99,8 @@ unfolding openedFsm requested
 opened f = refl
 
 -- the id of a request is another than the one before (RFC 1661, 5.1 and 5.7; RFC 1334, 2.2.1)
-pub id-changes : (i : ℕ) → i < 256 → nextId i ≡ i → ⊥
-id-changes i h e = omega arith
+pub id-changes : (i : ℕ) → nextId i ≡ i → ⊥
+id-changes i e = omega arith
 
 -- ---- Protocol-Reject
 

@@ -66,7 +66,7 @@ unfolding same
 judge-pap p x = rw (x .value, x .type) refl
 
 -- in any other way it is nacked
-judge-else : (p : Lcp) (o : Option) → o .type ≡ 3 → (PapOption o → ⊥) → judgeLcp p (o .type) (o .value) suggestion ≡ judgedLcp Nack p
+pub judge-else : (p : Lcp) (o : Option) → o .type ≡ 3 → (PapOption o → ⊥) → judgeLcp p (o .type) (o .value) suggestion ≡ judgedLcp Nack p
 judge-else p o e n =
     by-test (same (o .value) suggestion)
     (λ t. absurd (n (record { small = omega arith; type = e; value = same-eq (o .value) suggestion (rw t tt) })))
@@ -101,6 +101,13 @@ map-acked {o} x = lcp-verdict o (judge-map x freshLcp suggestion)
 pub address-acked : {o : Option} {a : ℕ} → IpAddress o a → ipv4cpVerdict (o .type) (o .value) ≡ Ack
 address-acked {o} x =
     sym (judged-verdict (OfIpv4cp freshIpv4cp) (o .type) (o .value)) ∙ ap (λ (j : Ipv4cpJudged). j .verdict) (judge-address freshIpv4cp x)
+
+-- any other option is rejected (RFC 1661, 5.4)
+pub lcp-rejects : (o : Option) → (o .type ≡ 2 → ⊥) → (o .type ≡ 3 → ⊥) → lcpVerdict (o .type) (o .value) ≡ Rej
+lcp-rejects o h k = rw (ne-eqb (o .type) 2 h, ne-eqb (o .type) 3 k) refl
+
+pub ipcp-rejects : (o : Option) → (o .type ≡ 3 → ⊥) → ipv4cpVerdict (o .type) (o .value) ≡ Rej
+ipcp-rejects o h = rw (ne-eqb (o .type) 3 h) refl
 
 -- ---- the whole of a request
 
