@@ -37,23 +37,30 @@ use Rattle.original.specs.Fsm.{newFsm}
 use Rattle.original.specs.Protocols.{getIp, NoAddr, SomeAddr, newLcp, lcpProtocol, newIpv4cp, ipv4cpProtocol, PapClosed}
 use Rattle.original.specs.Ppp as ppp
 use Rattle.original.specs.Pppos as theirs
-use Rattle.original.specs.View.{viewIp, viewShown, viewStatus, viewLink}
+use Rattle.original.specs.View.{viewIp, viewPhase, viewLink, asPhase, asShown, asStatus}
 use Rattle.original.specs.Same.{numberAt, Plain, Lent, SameOpen, SameNew}
 use Rattle.original.proofs.Reader.{same-consume}
 use Rattle.original.proofs.Handle.{opened-is}
 
 -- ---- status
 
-shown-is : (a : ℕ) → cond (eqb a 0) NoAddr (SomeAddr a) ≡ viewShown (shown a)
+shown-is : (a : ℕ) → shown a ≡ asShown (cond (eqb a 0) NoAddr (SomeAddr a))
 shown-is a = by-test (eqb a 0) (λ t. rw t refl) (λ t. rw t refl)
 
-ip-is : (o : ip.IpOption) → getIp (viewIp o) ≡ viewShown (shownIp o)
+ip-is : (o : ip.IpOption) → shownIp o ≡ asShown (getIp (viewIp o))
 ip-is o = by-test (o .«is_rejected») (λ t. rw t refl) (λ t. rw t (shown-is (o .address)))
 
-pub same-status : (l : PPPoS) → theirs.statusLink (viewLink l) ≡ viewStatus (statusOf (l .ppp))
+phase-is : (f : Phase) → f ≡ asPhase (viewPhase f)
+phase-is Dead = refl
+phase-is Establish = refl
+phase-is Auth = refl
+phase-is Network = refl
+phase-is Open = refl
+
+pub same-status : (l : PPPoS) → statusOf (l .ppp) ≡ asStatus (theirs.statusLink (viewLink l))
 same-status l =
     let y = l .ppp .ipv4cp .proto in
-    rw (opened-is (l .ppp .ipv4cp .state))
+    rw (opened-is (l .ppp .ipv4cp .state), ← phase-is (l .ppp .phase))
     (by-test (isOpened (l .ppp .ipv4cp .state))
     (λ t. rw (t, ip-is (y .address), shown-is (y .«peer_address»), ip-is (y .«dns_server_1»), ip-is (y .«dns_server_2»)) refl)
     (λ t. rw t refl))

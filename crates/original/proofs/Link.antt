@@ -24,7 +24,7 @@ use Rattle.original.specs.View.{viewLink}
 use Rattle.original.specs.Same.{Plain, Lent, SamePoll, same, dropped}
 use Rattle.original.proofs.Reader.{receive-is}
 use Rattle.original.proofs.Received as received
-use Rattle.original.proofs.Poll.{rest-same}
+use Rattle.original.proofs.Poll.{poll-is, rest-same}
 use Rattle.original.proofs.Polls.{mid, other-protocols, refused-is, received-same}
 
 plain-held : {l : PPPoS} → Plain l → received.Held (l .ppp)
@@ -45,16 +45,16 @@ module _ (l : PPPoS) (tx rx : List ℕ) (plain : Plain l) (lent : Lent l rx) (fr
 
   -- nothing is fetched
   between : isComplete (l .«frame_reader» .state) ≡ false → Goal
-  unfolding theirs.poll ours.pollLink frames
+  unfolding theirs.handleInput ours.pollLink frames
   between e =
-      let come : theirs.poll (viewLink l) tx rx ≡ theirs.pollRest (viewLink l) (newWriter tx) rx = rw (receive-is (l .«frame_reader») framed, e) refl in
-      rw (receive-is (l .«frame_reader») framed, e, le-ltb (length rx) (l .«frame_reader» .len) (lent .room))
+      let come : theirs.handleInput (viewLink l) tx rx ≡ returns (theirs.goesOn (viewLink l) (newWriter tx) rx) = rw (receive-is (l .«frame_reader») framed, e) refl in
+      rw (poll-is (viewLink l) tx rx come, e, le-ltb (length rx) (l .«frame_reader» .len) (lent .room))
       (rest-same l tx rx (l .«frame_reader») (l .ppp) (plain-held plain) [] false 0 (omega arith) (plain .crate-reading) come)
 
   -- a packet is fetched
   module _ (e : isComplete (l .«frame_reader» .state) ≡ true) where
-    come : theirs.poll (viewLink l) tx rx ≡ theirs.pollPacket m (newWriter tx) 1 to rx pkt
-    unfolding theirs.poll
+    come : theirs.handleInput (viewLink l) tx rx ≡ theirs.pollPacket m (newWriter tx) 1 to rx pkt
+    unfolding theirs.handleInput
     come =
         let h = framed e in
         let k = lent .room in
@@ -70,16 +70,16 @@ module _ (l : PPPoS) (tx rx : List ℕ) (plain : Plain l) (lent : Lent l rx) (fr
         by-le 2 (length pkt)
         (λ h. by-test (eqb (protocolIn pkt) 0x0021)
         (λ t.
-        let ip : theirs.poll (viewLink l) tx rx ≡ returns (record { action = theirs.Received 3 to; link = m; tx = tx; rx = rx }) = come ∙ rw (le-ltb (length pkt) 2 h, eqb-true (protocolIn pkt) 0x0021 t) refl in
+        let ip : theirs.poll (viewLink l) tx rx ≡ returns (record { action = theirs.Received 3 to; link = m; tx = tx; rx = rx }) = poll-is (viewLink l) tx rx {x = returns (theirs.handedOut (record { action = theirs.Received 3 to; link = m; tx = tx; rx = rx }))} (come ∙ rw (le-ltb (length pkt) 2 h, eqb-true (protocolIn pkt) 0x0021 t) refl) in
         rw (ip, mine, le-leb 2 (length pkt) h, t) (same refl refl (plain .crate-reading) refl refl))
         (λ t.
         let least : 1 ≤ to = omega (arith, framed e) in
         let most : to ≤ length rx = omega (arith, lent .room) in
-        let other : theirs.poll (viewLink l) tx rx ≡ theirs.pollReceived m (newWriter tx) 1 to rx pkt = come ∙ rw (le-ltb (length pkt) 2 h) (other-protocols m (newWriter tx) 1 to rx pkt (protocolIn pkt) t) in
+        let other : theirs.handleInput (viewLink l) tx rx ≡ theirs.pollReceived m (newWriter tx) 1 to rx pkt = come ∙ rw (le-ltb (length pkt) 2 h) (other-protocols m (newWriter tx) 1 to rx pkt (protocolIn pkt) t) in
         rw (mine, le-leb 2 (length pkt) h, t)
         (received-same l tx rx (plain-held plain) (lent .bytes) (plain .crate-reading) to least most t other)))
         (λ h.
-        let short : theirs.poll (viewLink l) tx rx ≡ panics pollSlice = come ∙ rw (lt-ltb (length pkt) 2 h) refl in
+        let short : theirs.poll (viewLink l) tx rx ≡ panics pollSlice = poll-is (viewLink l) tx rx {x = panics pollSlice} (come ∙ rw (lt-ltb (length pkt) 2 h) refl) in
         let no : receivedOf (l .ppp) pkt .outcome ≡ Refused PacketShort = rw (lt-ltb (length pkt) 2 h) refl in
         rw (short, mine, lt-leb 2 (length pkt) h, refused-is l (fetched (l .«frame_reader»)) tx rx pkt no) (dropped PacketShort refl refl))
 

@@ -22,7 +22,7 @@ use Rattle.link.specs.Link as ours
 use Rattle.link.specs.declared.pppos.PPPoS.{PPPoS}
 use Rattle.link.specs.declared.pppos.PPPoSAction.the-variants.{Transmit}
 use Rattle.link.proofs.Sending.{frames-append}
-use Rattle.original.specs.Run.{Place, Run, returns, panics}
+use Rattle.original.specs.Run.{Place, Run, returns, panics, _>>=_}
 use Rattle.original.specs.Framing.{FrameWriter}
 use Rattle.original.specs.Ppp as ppp
 use Rattle.original.specs.Pppos as theirs
@@ -36,6 +36,11 @@ use Rattle.original.proofs.Phases.{phase-same}
 -- the count as an action
 sent-is : (n : ℕ) → ours.sent n ≡ asAction (cond (eqb n 0) theirs.None (theirs.Transmit n))
 sent-is n = by-test (eqb n 0) (λ t. rw t refl) (λ t. rw t refl)
+
+-- a poll, by what the handling of input comes to
+pub poll-is : (m : theirs.PPPoS) (tx rx : List ℕ) {x : Run theirs.Input} → theirs.handleInput m tx rx ≡ x → theirs.poll m tx rx ≡ (x >>= theirs.pollInput)
+unfolding theirs.poll
+poll-is m tx rx e = ap (λ (y : Run theirs.Input). y >>= theirs.pollInput) e
 
 -- a panic of the phase step is the poll's
 rest-stops : (m : theirs.PPPoS) (w : FrameWriter) (b : List ℕ) {place : Place} → ppp.pollPpp (m .ppp) ≡ panics place → theirs.pollRest m w b ≡ panics place
@@ -70,7 +75,7 @@ module _ (l : PPPoS) (tx rx : List ℕ) (r : FrameReader) (q : Ppp) (held : Held
           sym (rw zero-add at (sets-append f g tx 0) ∙ rw n at (sets-front (f ++ g) tx (rw n h)))
 
   -- the rest of a poll, where the original has come to it
-  pub rest-same : theirs.poll (viewLink l) tx rx ≡ theirs.pollRest (viewLink (ours.linkOf r q)) w (ours.echoedIn e rx)
+  pub rest-same : theirs.handleInput (viewLink l) tx rx ≡ returns (theirs.goesOn (viewLink (ours.linkOf r q)) w (ours.echoedIn e rx))
       → SamePoll l tx rx (theirs.pollRest (viewLink (ours.linkOf r q)) w (ours.echoedIn e rx)) (ours.answered l r turn tx rx)
   rest-same come = go (ppp.pollPpp (viewPpp q)) refl (phase-same q held)
     where

@@ -37,7 +37,7 @@ use Rattle.original.specs.Same.{SamePoll, same, full, dropped}
 use Rattle.original.proofs.Bytes.{each-take, each-drop}
 use Rattle.original.proofs.Frames.{Carried, pollWriter, crcAfter, transmit-all}
 use Rattle.original.proofs.Received as received
-use Rattle.original.proofs.Poll.{rest-same}
+use Rattle.original.proofs.Poll.{poll-is, rest-same}
 
 -- the receive buffer, once the packet is back
 back-is : (rx : List ℕ) (to : ℕ) (o : Bool) → 1 ≤ to → to ≤ length rx → (o ≡ true → 2 < length (take (to - 1) (drop 1 rx)))
@@ -75,7 +75,7 @@ module _ (l : PPPoS) (tx rx : List ℕ) (held : received.Held (l .ppp)) (bytes :
 
   -- a packet of the receive buffer, up to index to, that is no IPv4 packet
   module _ (to : ℕ) (least : 1 ≤ to) (most : to ≤ length rx) (other : eqb (protocolIn (take (to - 1) (drop 1 rx))) 0x0021 ≡ false)
-      (come : theirs.poll (viewLink l) tx rx ≡ theirs.pollReceived mid (newWriter tx) 1 to rx (take (to - 1) (drop 1 rx))) where
+      (come : theirs.handleInput (viewLink l) tx rx ≡ theirs.pollReceived mid (newWriter tx) 1 to rx (take (to - 1) (drop 1 rx))) where
     abbrev pkt : List ℕ
     pkt = take (to - 1) (drop 1 rx)
 
@@ -91,11 +91,11 @@ module _ (l : PPPoS) (tx rx : List ℕ) (held : received.Held (l .ppp)) (bytes :
     -- the packet's replies are written, or do not fit
     module _ {r : ppp.Received} (run : ppp.received (viewPpp (l .ppp)) pkt ≡ returns r) where
       wrote : (v : FrameWriter) → theirs.transmitAll (newWriter tx) (r .tx) ≡ returns v
-          → theirs.poll (viewLink l) tx rx ≡ theirs.pollRest (theirs.withPpp mid (r .ppp)) v (take 1 rx ++ (r .pkt ++ drop to rx))
+          → theirs.handleInput (viewLink l) tx rx ≡ returns (theirs.goesOn (theirs.withPpp mid (r .ppp)) v (take 1 rx ++ (r .pkt ++ drop to rx)))
       wrote v e = come ∙ rw (run, e) refl
 
       stopped : (place : Place) → theirs.transmitAll (newWriter tx) (r .tx) ≡ panics place → theirs.poll (viewLink l) tx rx ≡ panics place
-      stopped place e = come ∙ rw (run, e) refl
+      stopped place e = poll-is (viewLink l) tx rx {x = panics place} (come ∙ rw (run, e) refl)
 
       -- the replies, then the rest
       replies : r .ppp ≡ viewPpp (t .ppp) → received.Held (t .ppp) → t .outcome ≡ Done
@@ -110,9 +110,9 @@ module _ (l : PPPoS) (tx rx : List ℕ) (held : received.Held (l .ppp)) (bytes :
           let back = ap (λ (x : List ℕ). take 1 rx ++ (x ++ drop to rx)) d ∙ back-is rx to (t .echoed) least most k in
           let here =
           wrote v all
-          ∙ ap (λ (x : ppp.Ppp). theirs.pollRest (theirs.withPpp mid x) v (take 1 rx ++ (r .pkt ++ drop to rx))) a
-          ∙ ap (λ (x : List ℕ). theirs.pollRest (theirs.withPpp mid (viewPpp (t .ppp))) v x) back in
-          rw (here, turn-done (l .ppp) pkt o) (rest-same l tx rx next (t .ppp) h (t .sent) (t .echoed) (crcAfter 0 (t .sent)) fits crate here))
+          ∙ ap (λ (x : ppp.Ppp). returns (theirs.goesOn (theirs.withPpp mid x) v (take 1 rx ++ (r .pkt ++ drop to rx)))) a
+          ∙ ap (λ (x : List ℕ). returns (theirs.goesOn (theirs.withPpp mid (viewPpp (t .ppp))) v x)) back in
+          rw (poll-is (viewLink l) tx rx here, turn-done (l .ppp) pkt o) (rest-same l tx rx next (t .ppp) h (t .sent) (t .echoed) (crcAfter 0 (t .sent)) fits crate here))
           (λ over.
           let g = frames (phaseOf (t .ppp) .sent) in
           let none : theirs.transmitAll (newWriter tx) (r .tx) ≡ panics replyFull = wrote-all ∙ rw (lt-leb (length f) (length tx) over) refl in
@@ -132,5 +132,5 @@ module _ (l : PPPoS) (tx rx : List ℕ) (held : received.Held (l .ppp)) (bytes :
         go x run (received.same a h o d k c) = replies run a h o d k c
         go x run (received.long q e h o) = too-long run q e h o
         go x run (received.stops {p = place} why e o) =
-            let stop : theirs.poll (viewLink l) tx rx ≡ panics place = come ∙ rw run refl in
+            let stop : theirs.poll (viewLink l) tx rx ≡ panics place = poll-is (viewLink l) tx rx {x = panics place} (come ∙ rw run refl) in
             rw (stop, refused-is l next tx rx pkt o) (dropped why e refl)

@@ -69,34 +69,46 @@ pollRest l w rx = do
   v ← transmitAll w (s .tx)
   returns (record { action = cond (eqb (v .len) 0) None (Transmit (v .len)); link = withPpp l (s .ppp); tx = v .buf; rx = rx })
 
+-- what `// Handle input` comes to: an IP packet is handed out, or `self.ppp.poll(tx)` is next
+pub data Input : Type 0 where
+  handedOut : Poll → Input
+  goesOn : PPPoS → FrameWriter → List ℕ → Input
+
 -- `_ => self.ppp.received(pkt, &mut tx)`; pkt is `rx_buf[from..to]`
-abbrev pub pollReceived : PPPoS → FrameWriter → ℕ → ℕ → List ℕ → List ℕ → Run Poll
+abbrev pub pollReceived : PPPoS → FrameWriter → ℕ → ℕ → List ℕ → List ℕ → Run Input
 pollReceived l w from to rx pkt = do
   r ← received (l .ppp) pkt
   v ← transmitAll w (r .tx)
-  pollRest (withPpp l (r .ppp)) v (take from rx ++ (r .pkt ++ drop to rx))
+  returns (goesOn (withPpp l (r .ppp)) v (take from rx ++ (r .pkt ++ drop to rx)))
 
 -- `match proto.into()`
-abbrev pub pollBy : ProtocolType → PPPoS → FrameWriter → ℕ → ℕ → List ℕ → List ℕ → Run Poll
-pollBy IPv4 l w from to rx pkt = returns (record { action = Received (from + 2) to; link = l; tx = w .buf; rx = rx })
+abbrev pub pollBy : ProtocolType → PPPoS → FrameWriter → ℕ → ℕ → List ℕ → List ℕ → Run Input
+pollBy IPv4 l w from to rx pkt = returns (handedOut (record { action = Received (from + 2) to; link = l; tx = w .buf; rx = rx }))
 pollBy Unknown l w from to rx pkt = pollReceived l w from to rx pkt
 pollBy LCP l w from to rx pkt = pollReceived l w from to rx pkt
 pollBy PAP l w from to rx pkt = pollReceived l w from to rx pkt
 pollBy IPv4CP l w from to rx pkt = pollReceived l w from to rx pkt
 
-abbrev pub pollPacket : PPPoS → FrameWriter → ℕ → ℕ → List ℕ → List ℕ → Run Poll
+abbrev pub pollPacket : PPPoS → FrameWriter → ℕ → ℕ → List ℕ → List ℕ → Run Input
 pollPacket l w from to rx pkt = cond (ltb (length pkt) 2) (panics pollSlice) (pollBy (protocolFrom (beOf (take 2 pkt))) l w from to rx pkt)
 
 -- `if let Some(range) = self.frame_reader.receive()`
-abbrev pub pollFetch : PPPoS → FrameWriter → List ℕ → Fetch → Run Poll
-pollFetch l w rx (nothing r) = pollRest (record { frameReader = r; ppp = l .ppp }) w rx
+abbrev pub pollFetch : PPPoS → FrameWriter → List ℕ → Fetch → Run Input
+pollFetch l w rx (nothing r) = returns (goesOn (record { frameReader = r; ppp = l .ppp }) w rx)
 pollFetch l w rx (range from to r) =
     cond (ltb to from || ltb (length rx) to) (panics pollRange)
     (pollPacket (record { frameReader = r; ppp = l .ppp }) w from to rx (take (to - from) (drop from rx)))
 
+unfoldable pub handleInput : PPPoS → List ℕ → List ℕ → Run Input
+handleInput l tx rx = receive (l .frameReader) >>= pollFetch l (newWriter tx) rx
+
+abbrev pub pollInput : Input → Run Poll
+pollInput (handedOut p) = returns p
+pollInput (goesOn l w rx) = pollRest l w rx
+
 -- PPPoS::poll
 unfoldable pub poll : PPPoS → List ℕ → List ℕ → Run Poll
-poll l tx rx = receive (l .frameReader) >>= pollFetch l (newWriter tx) rx
+poll l tx rx = handleInput l tx rx >>= pollInput
 
 -- ---- send and consume
 

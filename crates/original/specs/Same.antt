@@ -36,7 +36,7 @@ use Rattle.original.specs.Fsm.{closeFsm}
 use Rattle.original.specs.Protocols.{ipv4cpProtocol, closePap}
 use Rattle.original.specs.Ppp.{Ppp, withPap, withIpv4cp}
 use Rattle.original.specs.Pppos as theirs
-use Rattle.original.specs.View.{viewWriter, viewReader, viewLink, viewStatus, asAction}
+use Rattle.original.specs.View.{viewWriter, viewReader, viewLink, asStatus, asAction}
 
 -- a writer's call: done where the original says Ok, refusal 1 where it says Err, and what both leave
 pub record SameWrite (r : Wrote) (o : framed.Outcome) (w : writer.FrameWriter) (buf : List ℕ) : Type 0 where
@@ -126,7 +126,7 @@ pub data SamePoll (l : PPPoS) (tx rx : List ℕ) : Run theirs.Poll → Poll → 
   dropped : {place : Place} {p : Poll} (why : Refusal) → numberOf why ≡ numberAt place
       → p ≡ declined (Negotiation why) (linkOf (fetched (l .«frame_reader»)) (l .ppp)) tx rx → SamePoll l tx rx (panics place) p
   -- an assert of open, at which the original has come to link m, writer w and buffer b: ours is what it does from there as if Closed
-  opens : {place : Place} {p : Poll} (a : Asserts place) (m : theirs.PPPoS) (w : FrameWriter) (b : List ℕ) → theirs.poll (viewLink l) tx rx ≡ theirs.pollRest m w b
+  opens : {place : Place} {p : Poll} (a : Asserts place) (m : theirs.PPPoS) (w : FrameWriter) (b : List ℕ) → theirs.handleInput (viewLink l) tx rx ≡ returns (theirs.goesOn m w b)
       → SamePoll l tx rx (theirs.pollRest (theirs.withPpp m (asIfClosed a (m .ppp))) w b) p → SamePoll l tx rx (panics place) p
 
 -- a call of send: done where the original says Ok, refusal 1 where it says Err; its count, and every byte of the buffer
@@ -151,7 +151,7 @@ pub record SameNew (name password : List ℕ) (o : Outcome) (l : PPPoS) : Type 0
 pub record SameLink : Type 0 where
   pub new : (name password : List ℕ) {o : Outcome} {l : PPPoS} → Changes (newOf name password) (freshReader Crate) o l → SameNew name password o l
   pub «open» : (l : PPPoS) {o : Outcome} {l′ : PPPoS} → Changes (openOf (l .ppp)) (l .«frame_reader») o l′ → SameOpen (theirs.openLink (viewLink l)) l o l′
-  pub status : (l : PPPoS) → theirs.statusLink (viewLink l) ≡ viewStatus (statusOf (l .ppp))
+  pub status : (l : PPPoS) → statusOf (l .ppp) ≡ asStatus (theirs.statusLink (viewLink l))
   pub consume : (l : PPPoS) (rx bs : List ℕ) → Plain l → Lent l rx → Bytes bs → {o : Outcome} {n : ℕ} {l′ : PPPoS} {rx′ : List ℕ} → Consumes l rx bs o n l′ rx′
       → (o ≡ Done) × (theirs.consumeLink (viewLink l) bs rx ≡ returns (record { count = n; link = viewLink l′; rx = rx′ })) × (l′ .«frame_reader» .reading ≡ Crate)
   pub poll : (l : PPPoS) (tx rx : List ℕ) → Plain l → Lent l rx → (isComplete (l .«frame_reader» .state) ≡ true → 3 ≤ l .«frame_reader» .len)

@@ -1,5 +1,5 @@
 -- Our records as the original's: the one file that later changes of our link touch.
-use mathlib.Core.Bool.{cond}
+use mathlib.Core.Bool.{true, false}
 use mathlib.Core.List.{List}
 use Prim.Native.Nat.{ℕ}
 use Rattle.framing.specs.declared.frame_writer.FrameWriter as writer
@@ -24,7 +24,7 @@ use Rattle.link.specs.declared.pppos.PPPoSAction as action
 use Rattle.original.specs.Framing.{FrameWriter, ReaderState, Start, Address, Data, Complete, FrameReader}
 use Rattle.original.specs.Fsm.{State, Closed, ReqSent, AckReceived, AckSent, Opened, OptionFsm}
 use Rattle.original.specs.Protocols.{AuthType, AuthNone, AuthPap, Lcp, IpOption, Shown, NoAddr, SomeAddr, Ipv4cp, PapState, PapClosed, PapReqSent, PapOpened, Pap}
-use Rattle.original.specs.Ppp.{Phase, Dead, Establish, Auth, Network, Open, Ppp, Down, Up, Status}
+use Rattle.original.specs.Ppp.{Phase, Dead, Establish, Auth, Network, Open, Ppp, Ipv4, Down, Up, Status}
 use Rattle.original.specs.Pppos.{PPPoS, PPPoSAction, None, Received, Transmit}
 
 -- ---- framing
@@ -100,14 +100,24 @@ asAction None = action.the-variants.Idle
 asAction (Received from to) = action.the-variants.Received from to
 asAction (Transmit n) = action.the-variants.Transmit n
 
--- what is shown
-abbrev pub viewShown : shown.Shown → Shown
-viewShown shown.the-variants.Absent = NoAddr
-viewShown (shown.the-variants.At a) = SomeAddr a
+-- what the original shows, as ours does: no address while it is down
+abbrev pub asPhase : Phase → phase.Phase
+asPhase Dead = phase.the-variants.Dead
+asPhase Establish = phase.the-variants.Establish
+asPhase Auth = phase.the-variants.Auth
+asPhase Network = phase.the-variants.Network
+asPhase Open = phase.the-variants.Open
 
-abbrev pub viewStatus : status.Status → Status
-viewStatus s =
-    record {
-      phase = viewPhase (s .phase);
-      ipv4 = cond (s .up) (Up (record { address = viewShown (s .address); peerAddress = viewShown (s .«peer_address»); dnsServer1 = viewShown (s .«dns_server_1»); dnsServer2 = viewShown (s .«dns_server_2») })) Down;
-    }
+abbrev pub asShown : Shown → shown.Shown
+asShown NoAddr = shown.the-variants.Absent
+asShown (SomeAddr a) = shown.the-variants.At a
+
+abbrev pub asShownStatus : phase.Phase → Ipv4 → status.Status
+asShownStatus f Down =
+    record { phase = f; up = false; address = shown.the-variants.Absent; «peer_address» = shown.the-variants.Absent; «dns_server_1» = shown.the-variants.Absent; «dns_server_2» = shown.the-variants.Absent }
+asShownStatus f (Up i) =
+    record { phase = f; up = true; address = asShown (i .address); «peer_address» = asShown (i .peerAddress); «dns_server_1» = asShown (i .dnsServer1); «dns_server_2» = asShown (i .dnsServer2) }
+
+-- a status of the original, as ours gives it
+abbrev pub asStatus : Status → status.Status
+asStatus s = asShownStatus (asPhase (s .phase)) (s .ipv4)
