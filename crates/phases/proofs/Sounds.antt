@@ -243,6 +243,30 @@ received-heard p pkt =
     (cond-all P (eqb n 0x8021) (record { phase = refl; opening = refl; lcp = λ _. refl; pap = inl refl; ipv4cp = handle-near (ipv4cpIn (p .ipv4cp)) pkt })
     (heard-lcp p _ (reject-near (lcpIn (p .lcp)) pkt))))))
 
+-- ---- what a phase step finds
+
+-- where a phase step may open PAP or IPv4CP, it finds it Closed
+pub record Ready (p : Ppp) : Type 0 where
+  pub establish : p .phase ≡ Establish → isClosed (p .lcp .state) ≡ false → (p .ipv4cp .state ≡ Closed) × (p .pap .state ≡ papState.Closed)
+  pub auth : p .phase ≡ Auth → p .ipv4cp .state ≡ Closed
+
+heard-ready : {p q : Ppp} → Heard p q → Sound p → Ready q
+heard-ready {p} {q} h s = record { establish = establish; auth = λ e. stays-closed (s .auth (sym (h .phase) ∙ e) .1) (h .ipv4cp) }
+  where
+    establish : q .phase ≡ Establish → isClosed (q .lcp .state) ≡ false → (q .ipv4cp .state ≡ Closed) × (q .pap .state ≡ papState.Closed)
+    establish e c =
+        let f : p .phase ≡ Establish = sym (h .phase) ∙ e in
+        let closed : isClosed (p .lcp .state) ≡ p .opening = rw f at (s .closed) in
+        let shut = by-test (p .opening) (λ o. closed-shut (p .lcp .state) (closed ∙ o)) (λ o. s .establish f o .0) in
+        let own = s .establish f (sym closed ∙ sym (h .lcp shut) ∙ c) in
+        (stays-closed (own .1) (h .ipv4cp), stays-idle (ap isPapSent (own .2)) (h .pap) ∙ own .2)
+
+pub ready : {p : Ppp} → Sound p → Ready p
+ready {p} s = heard-ready (heard-none p) s
+
+pub ready-received : {p : Ppp} (pkt : List ℕ) → Sound p → Ready (receivedOf p pkt .ppp)
+ready-received {p} pkt s = heard-ready (received-heard p pkt) s
+
 -- ---- what a phase step leaves
 
 settled-rests : (p : Ppp) → p .opening ≡ false → (isDead (p .phase) ≡ true → isClosed (p .lcp .state) ≡ true)
