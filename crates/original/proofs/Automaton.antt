@@ -33,12 +33,12 @@ use Rattle.original.specs.Run.{Place, Run, returns, panics, _>>=_}
 use Rattle.original.specs.Wire.{RawData, Options, PPP, Packet, packetLen}
 use Rattle.original.specs.Fsm as theirs
 use Rattle.original.specs.View.{viewState}
-use Rattle.original.specs.Same.{numberAt}
+use Rattle.original.specs.Panics.{numberAt}
 use Rattle.original.proofs.Bytes.{each-drop}
 use Rattle.original.proofs.Frames.{Carries, Carried, none, more, carried-append}
 use Rattle.original.proofs.Walk.{parse-is, walk-bytes}
 use Rattle.original.proofs.Packets.{lists-none, carries-ppp}
-use Rattle.original.proofs.Replies.{Stands, SameReply, SameAnswer, answered, refused, reply-same, SameNacks, nacked, nacks-same}
+use Rattle.original.proofs.Replies.{Stands, SameReply, SameAnswer, reply-same, SameNacks, nacks-same}
 use Rattle.original.proofs.Replies as replies
 
 module _ {X P : Type 0} (T : theirs.Protocol P) (inj : X → Proto) (view : X → P) (stands : Stands T inj view) where

@@ -38,7 +38,9 @@ use Rattle.original.specs.Protocols.{getIp, NoAddr, SomeAddr, newLcp, lc
 use Rattle.original.specs.Ppp as ppp
 use Rattle.original.specs.Pppos as theirs
 use Rattle.original.specs.View.{viewIp, viewPhase, viewLink, asPhase, asShown, asStatus}
-use Rattle.original.specs.Same.{numberAt, Plain, Lent, SameOpen, SameNew}
+use Rattle.original.specs.Domain.{Lent}
+use Rattle.original.specs.Same.{SameOpen}
+use Rattle.original.specs.Panics.{numberAt}
 use Rattle.original.proofs.Reader.{same-consume}
 use Rattle.original.proofs.Handle.{opened-is}
 
@@ -80,14 +82,14 @@ same-open l c = open-at (l .ppp .phase) (l .«frame_reader») (l .ppp) c
 
 -- ---- consume
 
-pub same-consume-link : (l : PPPoS) (rx bs : List ℕ) → Plain l → Lent l rx → Bytes bs → {o : Outcome} {n : ℕ} {l′ : PPPoS} {rx′ : List ℕ} → Consumes l rx bs o n l′ rx′
+pub same-consume-link : (l : PPPoS) (rx bs : List ℕ) → l .«frame_reader» .reading ≡ Crate → Lent l rx → Bytes bs → {o : Outcome} {n : ℕ} {l′ : PPPoS} {rx′ : List ℕ} → Consumes l rx bs o n l′ rx′
     → (o ≡ Done) × (theirs.consumeLink (viewLink l) bs rx ≡ returns (record { count = n; link = viewLink l′; rx = rx′ })) × (l′ .«frame_reader» .reading ≡ Crate)
-same-consume-link l rx bs plain lent given c =
+same-consume-link l rx bs crate lent given c =
     let h = le-ltb (length rx) (l .«frame_reader» .len) (lent .room) in
     let run =
-    same-consume (l .«frame_reader») rx bs (plain .crate-reading) (lent .room) (lent .slice) (lent .bytes) given {o = framed.Done}
+    same-consume (l .«frame_reader») rx bs crate (lent .room) (lent .slice) (lent .bytes) given {o = framed.Done}
     (record { number = rw h refl; count = refl; reader = refl; bytes = refl }) in
-    (c .outcome ∙ rw h refl, rw (run .0, c .count, c .link, c .bytes) refl, rw (c .link) (run .1))
+    (c .outcome ∙ rw h refl, rw (run .1, c .count, c .link, c .bytes) refl, rw (c .link) (run .2))
 
 -- ---- new
 
@@ -115,17 +117,17 @@ module _ (name password : List ℕ) {o : Outcome} {l : PPPoS} (c : Changes (newO
   fresh : l .«frame_reader» .reading ≡ Crate
   fresh = ap (λ (x : PPPoS). x .«frame_reader» .reading) (c .link)
 
-  new-fits : length name + length password ≤ 120 → (o ≡ Done) × (theirs.newLink name password ≡ returns (viewLink l)) × (l .«frame_reader» .reading ≡ Crate)
+  pub new-fits : length name + length password ≤ 120 → (o ≡ Done) × (theirs.newLink name password ≡ returns (viewLink l)) × (l .«frame_reader» .reading ≡ Crate)
   new-fits h =
       (c .outcome ∙ rw (fits-is (length name) (length password) h) refl, fresh-is name password Crate h ∙ ap returns (sym (ap viewLink (c .link))), fresh)
 
-  new-over : 120 < length name + length password → (o ≡ Refused (Negotiation CredentialsLong)) × (theirs.newLink [] [] ≡ returns (viewLink l)) × (l .«frame_reader» .reading ≡ Crate)
+  pub new-over : 120 < length name + length password → (o ≡ Refused (Negotiation CredentialsLong)) × (theirs.newLink [] [] ≡ returns (viewLink l)) × (l .«frame_reader» .reading ≡ Crate)
   new-over h =
       let e = fits-not (length name) (length password) h in
       let link : l ≡ linkOf (reader.freshReader Crate) (newOf [] [] .ppp) = c .link ∙ rw e refl in
       (c .outcome ∙ rw e refl, fresh-is [] [] Crate (lit≤ tt) ∙ ap returns (sym (ap viewLink link)), fresh)
 
-  new-panics : {p : Place} → theirs.newLink name password ≡ panics p → outcomeNumber o ≡ numberAt p
+  pub new-panics : {p : Place} → theirs.newLink name password ≡ panics p → outcomeNumber o ≡ numberAt p
   new-panics {p} e =
       by-test (ltb 255 (length name))
       (λ t.
@@ -143,6 +145,3 @@ module _ (name password : List ℕ) {o : Outcome} {l : PPPoS} (c : Changes (newO
     where
       four : 120 < length name + length password → outcomeNumber o ≡ 4
       four h = ap outcomeNumber (new-over h .0)
-
-  pub same-new : SameNew name password o l
-  same-new = record { fits = new-fits; over = new-over; panicked = new-panics }

@@ -19,4 +19,7 @@ pub mod Link
 pub mod Send
 pub mod Calls
 pub mod SameLink
+pub mod Lasting
+pub mod History
+pub mod Panics
 pub mod Views

@@ -16,13 +16,14 @@ use Rattle.negotiation.specs.declared.states.State.the-variants.{Closed, ReqSen
 use Rattle.negotiation.specs.declared.pap.PapState as papState
 use Rattle.phases.specs.declared.ppp.Phase.the-variants.{Dead}
 use Rattle.phases.specs.declared.ppp.Ppp as ppp
+use Rattle.phases.proofs.Sounds.{Ready}
 use Rattle.original.specs.Run.{Place, Run, returns, panics, fsmOpen}
 use Rattle.original.specs.Wire.{Packet, Options, PPP}
 use Rattle.original.specs.Fsm as fsm
 use Rattle.original.specs.Protocols.{lcpProtocol, ipv4cpProtocol, isPapOpened}
 use Rattle.original.specs.Ppp as theirs
 use Rattle.original.specs.View.{viewPapState, viewLcp, viewIpv4cp, viewPpp}
-use Rattle.original.specs.Same.{Asserts, asIfClosed}
+use Rattle.original.specs.Panics.{Asserts, asIfClosed}
 use Rattle.original.proofs.Frames.{Carried}
 use Rattle.original.proofs.Automaton.{request-sent}
 use Rattle.original.proofs.Handle.{closed-is}
@@ -37,7 +38,7 @@ pub record Steps (s : theirs.Polled) (t : ours.Step) : Type 0 where
 
 pub data SamePhase (p : ppp.Ppp) : Run theirs.Polled → Type 0 where
   same : {s : theirs.Polled} → Steps s (ours.phaseOf p) → SamePhase p (returns s)
-  asserts : {place : Place} (a : Asserts place) {s : theirs.Polled} → theirs.pollPpp (asIfClosed a (viewPpp p)) ≡ returns s → Steps s (ours.phaseOf p) → SamePhase p (panics place)
+  asserts : {place : Place} → (Ready p → ⊥) → (a : Asserts place) {s : theirs.Polled} → theirs.pollPpp (asIfClosed a (viewPpp p)) ≡ returns s → Steps s (ours.phaseOf p) → SamePhase p (panics place)
 
 -- ---- opening and closing
 

@@ -23,7 +23,7 @@ use Rattle.original.specs.Run.{Place, Run, returns, panics}
 use Rattle.original.specs.Wire.{PAP, Credentials, PPP, codeFrom}
 use Rattle.original.specs.Protocols as theirs
 use Rattle.original.specs.View.{viewPapState, viewPap}
-use Rattle.original.specs.Same.{numberAt}
+use Rattle.original.specs.Panics.{numberAt}
 use Rattle.original.proofs.Bytes.{each-take, each-drop}
 use Rattle.original.proofs.Frames.{Carries, Carried, none, more}
 use Rattle.original.proofs.Packets.{carries-ppp, bytes-append}

@@ -6,7 +6,7 @@ use mathlib.Core.List.{[], _∷_}
 use Prim.Native.Nat.{ℕ, _+_, _<_}
 use native.Mathlib.Nat.{mod-lt}
 use lib.Dec.{lit<}
-use Rattle.laws.proofs.Cases.{by-test}
+use Rattle.laws.proofs.Cases.{apart, by-test}
 use Rattle.negotiation.specs.Automaton.{isClosed, isOpened, nextId, requested, openedFsm}
 use Rattle.negotiation.specs.Pap as pap
 use Rattle.negotiation.specs.Pap.{openedPap, papRequested, withPapState, steppedPap}
@@ -22,12 +22,13 @@ use Rattle.negotiation.specs.declared.pap.PapState as papState
 use Rattle.phases.specs.declared.ppp.Phase.{Phase}
 use Rattle.phases.specs.declared.ppp.Phase.the-variants.{Dead, Establish, Auth, Network, Open}
 use Rattle.phases.specs.declared.ppp.Ppp as ppp
+use Rattle.phases.proofs.Sounds.{Ready}
 use Rattle.original.specs.Run.{returns, panics, fsmOpen}
 use Rattle.original.specs.Fsm as fsm
-use Rattle.original.specs.Protocols.{lcpProtocol, ipv4cpProtocol, openPap, isPapOpened, sendPapRequest}
+use Rattle.original.specs.Protocols.{lcpProtocol, ipv4cpProtocol, openPap, sendPapRequest}
 use Rattle.original.specs.Ppp as theirs
 use Rattle.original.specs.View.{viewState, viewLcp, viewIpv4cp, viewPap, viewPpp}
-use Rattle.original.specs.Same.{ipv4cpOpened, papOpened}
+use Rattle.original.specs.Panics.{ipv4cpOpened, papOpened}
 use Rattle.original.proofs.Frames.{none, more}
 use Rattle.original.proofs.Automaton.{request-carries}
 use Rattle.original.proofs.Handle.{closed-is, opened-is}
@@ -78,12 +79,12 @@ module _ (o : Bool) (i : ℕ) (s : State) (x : lcp.Lcp) (c : papRecord.Pap) (j :
   -- IPv4CP is opened in phase f: from Closed, or past the assert
   opens : (f : Phase) (r : theirs.Polled) → theirs.pollPpp (viewPpp (at f o i s x c j Closed y)) ≡ returns r
       → ((t : State) → fsm.isClosed (viewState t) ≡ false → theirs.pollPpp (viewPpp (at f o i s x c j t y)) ≡ panics fsmOpen)
-      → ((t : State) → Steps r (ours.phaseOf (at f o i s x c j t y))) → (t : State) → Goal f t
-  opens f r run stop steps Closed = rw run (same (steps Closed))
-  opens f r run stop steps ReqSent = rw (stop ReqSent refl) (asserts ipv4cpOpened run (steps ReqSent))
-  opens f r run stop steps AckReceived = rw (stop AckReceived refl) (asserts ipv4cpOpened run (steps AckReceived))
-  opens f r run stop steps AckSent = rw (stop AckSent refl) (asserts ipv4cpOpened run (steps AckSent))
-  opens f r run stop steps Opened = rw (stop Opened refl) (asserts ipv4cpOpened run (steps Opened))
+      → ((t : State) → Steps r (ours.phaseOf (at f o i s x c j t y))) → ((t : State) → Ready (at f o i s x c j t y) → t ≡ Closed) → (t : State) → Goal f t
+  opens f r run stop steps shut Closed = rw run (same (steps Closed))
+  opens f r run stop steps shut ReqSent = rw (stop ReqSent refl) (asserts (λ h. let e = shut ReqSent h in apart cc) ipv4cpOpened run (steps ReqSent))
+  opens f r run stop steps shut AckReceived = rw (stop AckReceived refl) (asserts (λ h. let e = shut AckReceived h in apart cc) ipv4cpOpened run (steps AckReceived))
+  opens f r run stop steps shut AckSent = rw (stop AckSent refl) (asserts (λ h. let e = shut AckSent h in apart cc) ipv4cpOpened run (steps AckSent))
+  opens f r run stop steps shut Opened = rw (stop Opened refl) (asserts (λ h. let e = shut Opened h in apart cc) ipv4cpOpened run (steps Opened))
 
   abbrev opened : theirs.Polled
   opened = record { ppp = theirs.settle (viewPpp (at Network o i s x c (nextId j) ReqSent y)); tx = ipv4cpPacket j y ∷ [] }
@@ -93,7 +94,7 @@ module _ (o : Bool) (i : ℕ) (s : State) (x : lcp.Lcp) (c : papRecord.Pap) (j :
   auth-opens e =
       opens Auth opened (rw (pap-opened-is (c .state), e, open-ipv4cp j y) refl)
       (λ t k. rw (pap-opened-is (c .state), e, opens-not ipv4cpProtocol (record { id = j; state = viewState t; proto = viewIpv4cp y }) k) refl)
-      (λ t. rw e opened-steps)
+      (λ t. rw e opened-steps) (λ t h. h .auth refl)
 
   auth-waits : pap.isPapOpened (c .state) ≡ false → (t : State) → Goal Auth t
   unfolding theirs.pollPpp ours.phaseOf ours.authOf
@@ -140,7 +141,7 @@ module _ (o : Bool) (i : ℕ) (m n : ℕ) (b : Bool) (c : papRecord.Pap) (j : �
       let x = with auth.the-variants.None in
       opens o i Opened x c j y hi hc hj Establish (opened o i Opened x c j y hi hc hj) (rw (open-ipv4cp j y) refl)
       (λ t k. rw (opens-not ipv4cpProtocol (record { id = j; state = viewState t; proto = viewIpv4cp y }) k) refl)
-      (λ t. opened-steps o i Opened x c j y hi hc hj)
+      (λ t. opened-steps o i Opened x c j y hi hc hj) (λ t h. h .establish refl refl .0)
 
   -- PAP, once opened
   abbrev sent : papRecord.Pap
@@ -163,8 +164,8 @@ module _ (o : Bool) (i : ℕ) (m n : ℕ) (b : Bool) (c : papRecord.Pap) (j : �
     where
       go : (u : papState.PapState) → c .state ≡ u → Here Opened auth.the-variants.Pap t
       go papState.the-variants.Closed e = rw e (same (asked-steps t))
-      go papState.the-variants.ReqSent e = rw e (asserts papOpened refl (asked-steps t))
-      go papState.the-variants.Opened e = rw e (asserts papOpened refl (asked-steps t))
+      go papState.the-variants.ReqSent e = rw e (asserts (λ h. let k = h .establish refl refl .1 in apart cc) papOpened refl (asked-steps t))
+      go papState.the-variants.Opened e = rw e (asserts (λ h. let k = h .establish refl refl .1 in apart cc) papOpened refl (asked-steps t))
 
   in-establish : (s : State) (a : auth.AuthType) (t : State) → Here s a t
   in-establish Closed a t = starts a t

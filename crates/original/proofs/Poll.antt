@@ -17,17 +17,18 @@ use Rattle.phases.specs.Phases.{PppTurn, phaseOf}
 use Rattle.options.specs.declared.refusal.Outcome.the-variants.{Done}
 use Rattle.phases.specs.declared.ppp.Ppp.{Ppp}
 use Rattle.phases.proofs.Phasing.{phase-sends}
+use Rattle.phases.proofs.Sounds.{Ready}
 use Rattle.link.specs.Frames.{frames}
 use Rattle.link.specs.Link as ours
+use Rattle.link.specs.Reached.{Reached}
 use Rattle.link.specs.declared.pppos.PPPoS.{PPPoS}
-use Rattle.link.specs.declared.pppos.PPPoSAction.the-variants.{Transmit}
 use Rattle.link.proofs.Sending.{frames-append}
 use Rattle.original.specs.Run.{Place, Run, returns, panics, _>>=_}
 use Rattle.original.specs.Framing.{FrameWriter}
 use Rattle.original.specs.Ppp as ppp
 use Rattle.original.specs.Pppos as theirs
 use Rattle.original.specs.View.{viewReader, viewPpp, viewLink, asAction}
-use Rattle.original.specs.Same.{asIfClosed, SamePoll, same, full, opens}
+use Rattle.original.specs.Panics.{asIfClosed, full, SamePoll, same, refuses, opens}
 use Rattle.original.proofs.Frames.{pollWriter, transmit-all}
 use Rattle.original.proofs.Received.{Held}
 use Rattle.original.proofs.Opening as opening
@@ -48,7 +49,7 @@ unfolding theirs.pollRest
 rest-stops m w b e = rw e refl
 
 -- the frames of pre are written; q is the record before the phase step, and r the reader
-module _ (l : PPPoS) (tx rx : List ℕ) (r : FrameReader) (q : Ppp) (held : Held q) (pre : List (List ℕ)) (e : Bool) (c : ℕ) (fits : length (frames pre) ≤ length tx) (crate : r .reading ≡ Crate) where
+module _ (l : PPPoS) (tx rx : List ℕ) (r : FrameReader) (q : Ppp) (held : Held q) (ready : Reached l → Ready q) (pre : List (List ℕ)) (e : Bool) (c : ℕ) (fits : length (frames pre) ≤ length tx) (crate : r .reading ≡ Crate) where
   abbrev turn : PppTurn
   turn = record { outcome = Done; echoed = e; ppp = phaseOf q .ppp; sent = pre ++ phaseOf q .sent }
 
@@ -66,8 +67,8 @@ module _ (l : PPPoS) (tx rx : List ℕ) (r : FrameReader) (q : Ppp) (held : Held
       let link : viewLink (ours.linkOf r (phaseOf q .ppp)) ≡ record { frameReader = viewReader r; ppp = s .ppp } = ap (λ (x : ppp.Ppp). record { frameReader = viewReader r; ppp = x }) (sym (steps .ppp)) in
       rw (run, transmit-all (sets tx 0 f) (length f) c (steps .carried) (phase-sends q .short) (rw size fits), size, frames-append pre (phaseOf q .sent), length-append f g)
       (by-le (length f + length g) (length tx)
-      (λ h. rw (le-leb (length f + length g) (length tx) h) (same (sent-is (length f + length g)) link crate (written f g h) refl))
-      (λ h. rw (lt-leb (length f + length g) (length tx) h) (full refl)))
+      (λ h. rw (le-leb (length f + length g) (length tx) h) (same (record { action = sent-is (length f + length g); link = link; crate-reading = crate; transmit = written f g h; receive = refl })))
+      (λ h. rw (lt-leb (length f + length g) (length tx) h) (refuses (full refl refl))))
     where
       written : (f g : List ℕ) → length f + length g ≤ length tx → (f ++ g) ++ drop (length f + length g) tx ≡ sets (sets tx 0 f) (length f) g
       written f g h =
@@ -82,4 +83,4 @@ module _ (l : PPPoS) (tx rx : List ℕ) (r : FrameReader) (q : Ppp) (held : Held
       go : (x : Run ppp.Polled) → ppp.pollPpp (viewPpp q) ≡ x → opening.SamePhase q x
           → SamePoll l tx rx (theirs.pollRest (viewLink (ours.linkOf r q)) w (ours.echoedIn e rx)) (ours.answered l r turn tx rx)
       go x k (opening.same {s} steps) = ran (viewPpp q) s k steps
-      go x k (opening.asserts {place} a {s} run steps) = rw (rest-stops (viewLink (ours.linkOf r q)) w (ours.echoedIn e rx) k) (opens a (viewLink (ours.linkOf r q)) w (ours.echoedIn e rx) come (ran (asIfClosed a (viewPpp q)) s run steps))
+      go x k (opening.asserts {place} unready a {s} run steps) = rw (rest-stops (viewLink (ours.linkOf r q)) w (ours.echoedIn e rx) k) (opens (λ h. unready (ready h)) a (viewLink (ours.linkOf r q)) w (ours.echoedIn e rx) come (ran (asIfClosed a (viewPpp q)) s run steps))

@@ -20,10 +20,11 @@ use Rattle.phases.specs.Phases.{PppTurn, phaseOf, turnOf, receivedOf}
 use Rattle.options.specs.declared.refusal.Refusal.{Refusal}
 use Rattle.options.specs.declared.refusal.Refusal.the-variants.{ReplyLong}
 use Rattle.options.specs.declared.refusal.Outcome.the-variants.{Done, Refused}
-use Rattle.phases.specs.declared.ppp.Ppp.{Ppp}
 use Rattle.phases.proofs.Phasing.{turn-refused, turn-done, received-sends}
+use Rattle.phases.proofs.Sounds.{ready-received}
 use Rattle.link.specs.Frames.{frames}
 use Rattle.link.specs.Link as ours
+use Rattle.link.proofs.Reached.{reached-sound}
 use Rattle.link.specs.declared.refusal.Refusal.the-variants.{Negotiation}
 use Rattle.link.specs.declared.pppos.PPPoS.{PPPoS}
 use Rattle.link.proofs.Sending.{frames-append}
@@ -33,7 +34,7 @@ use Rattle.original.specs.Wire.{Packet, packetLen, protocolFrom}
 use Rattle.original.specs.Ppp as ppp
 use Rattle.original.specs.Pppos as theirs
 use Rattle.original.specs.View.{viewPpp, viewLink}
-use Rattle.original.specs.Same.{SamePoll, same, full, dropped}
+use Rattle.original.specs.Panics.{full, dropped, SamePoll, refuses}
 use Rattle.original.proofs.Bytes.{each-take, each-drop}
 use Rattle.original.proofs.Frames.{Carried, pollWriter, crcAfter, transmit-all}
 use Rattle.original.proofs.Received as received
@@ -74,7 +75,7 @@ module _ (l : PPPoS) (tx rx : List ℕ) (held : received.Held (l .ppp)) (bytes :
   mid = viewLink (ours.linkOf next (l .ppp))
 
   -- a packet of the receive buffer, up to index to, that is no IPv4 packet
-  module _ (to : ℕ) (least : 1 ≤ to) (most : to ≤ length rx) (other : eqb (protocolIn (take (to - 1) (drop 1 rx))) 0x0021 ≡ false)
+  module _ (to : ℕ) (least : 1 ≤ to) (most : to ≤ length rx) (two : 2 ≤ length (take (to - 1) (drop 1 rx))) (other : eqb (protocolIn (take (to - 1) (drop 1 rx))) 0x0021 ≡ false)
       (come : theirs.handleInput (viewLink l) tx rx ≡ theirs.pollReceived mid (newWriter tx) 1 to rx (take (to - 1) (drop 1 rx))) where
     abbrev pkt : List ℕ
     pkt = take (to - 1) (drop 1 rx)
@@ -112,25 +113,25 @@ module _ (l : PPPoS) (tx rx : List ℕ) (held : received.Held (l .ppp)) (bytes :
           wrote v all
           ∙ ap (λ (x : ppp.Ppp). returns (theirs.goesOn (theirs.withPpp mid x) v (take 1 rx ++ (r .pkt ++ drop to rx)))) a
           ∙ ap (λ (x : List ℕ). returns (theirs.goesOn (theirs.withPpp mid (viewPpp (t .ppp))) v x)) back in
-          rw (poll-is (viewLink l) tx rx here, turn-done (l .ppp) pkt o) (rest-same l tx rx next (t .ppp) h (t .sent) (t .echoed) (crcAfter 0 (t .sent)) fits crate here))
+          rw (poll-is (viewLink l) tx rx here, turn-done (l .ppp) pkt o) (rest-same l tx rx next (t .ppp) h (λ z. ready-received pkt (reached-sound z)) (t .sent) (t .echoed) (crcAfter 0 (t .sent)) fits crate here))
           (λ over.
           let g = frames (phaseOf (t .ppp) .sent) in
           let none : theirs.transmitAll (newWriter tx) (r .tx) ≡ panics replyFull = wrote-all ∙ rw (lt-leb (length f) (length tx) over) refl in
-          rw (stopped replyFull none, turn-done (l .ppp) pkt o, frames-append (t .sent) (phaseOf (t .ppp) .sent), length-append f g, lt-leb (length f + length g) (length tx) (omega arith)) (full refl))
+          rw (stopped replyFull none, turn-done (l .ppp) pkt o, frames-append (t .sent) (phaseOf (t .ppp) .sent), length-append f g, lt-leb (length f + length g) (length tx) (omega arith)) (refuses (full refl refl)))
 
       -- a packet above 128 bytes
       too-long : (q : Packet) → r .tx ≡ q ∷ [] → 128 < packetLen q → t .outcome ≡ Refused ReplyLong → Goal
       unfolding theirs.transmitAll theirs.transmit
       too-long q e h o =
           let long : theirs.transmitAll (newWriter tx) (r .tx) ≡ panics replyLong = rw (e, lt-ltb 128 (packetLen q) h) refl in
-          rw (stopped replyLong long, refused-is l next tx rx pkt o) (dropped ReplyLong refl refl)
+          rw (stopped replyLong long, refused-is l next tx rx pkt o) (refuses (dropped ReplyLong refl refl))
 
     pub received-same : Goal
-    received-same = go (ppp.received (viewPpp (l .ppp)) pkt) refl (received.received-same (l .ppp) held pkt (each-take (λ b. b < 256) (to - 1) (drop 1 rx) (each-drop (λ b. b < 256) 1 rx bytes)) other)
+    received-same = go (ppp.received (viewPpp (l .ppp)) pkt) refl (received.received-same (l .ppp) held pkt two (each-take (λ b. b < 256) (to - 1) (drop 1 rx) (each-drop (λ b. b < 256) 1 rx bytes)) other)
       where
         go : (x : Run ppp.Received) → ppp.received (viewPpp (l .ppp)) pkt ≡ x → received.SameReceived pkt x t → Goal
         go x run (received.same a h o d k c) = replies run a h o d k c
         go x run (received.long q e h o) = too-long run q e h o
         go x run (received.stops {p = place} why e o) =
             let stop : theirs.poll (viewLink l) tx rx ≡ panics place = poll-is (viewLink l) tx rx {x = panics place} (come ∙ rw run refl) in
-            rw (stop, refused-is l next tx rx pkt o) (dropped why e refl)
+            rw (stop, refused-is l next tx rx pkt o) (refuses (dropped why e refl))

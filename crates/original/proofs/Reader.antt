@@ -12,6 +12,7 @@ use lib.ListN.{length, getD, take, length-take}
 use lib.Seq.{getD-take}
 use Rattle.laws.specs.Each.{Bytes}
 use Rattle.laws.proofs.Cases.{by-le, by-test, cond-all}
+use Rattle.framing.specs.Refusal.{outcomeNumber}
 use Rattle.framing.specs.Reader as ours
 use Rattle.framing.specs.declared.frame_reader.State as reading
 use Rattle.framing.specs.declared.frame_reader.Reading.the-variants.{Crate}
@@ -20,17 +21,18 @@ use Rattle.framing.specs.declared.frame_reader.Got.{Got}
 use Rattle.framing.specs.declared.frame_reader.Got.the-variants.{Packet, Nothing}
 use Rattle.framing.specs.declared.refusal.Outcome.{Outcome}
 use Rattle.framing.proofs.OneAnswer.{gots-differ}
-use Rattle.framing.proofs.Reader.{Kept, step-kept, fed-left-le, consumed-fed}
+use Rattle.framing.proofs.Reader.{Kept, step-kept, fed-left-le, consumed-fed, receives-done}
 use Rattle.original.specs.Run.{Run, returns, _>>=_}
 use Rattle.original.specs.Crc.{crc16}
-use Rattle.original.specs.Framing.{FrameReader, Fed, feedIn, endOf, fedTo, storeOf, usizeMax, isComplete, consumeFrom, consume, nothing, range, receive, Start, Address, Data, Complete, Consumed}
+use Rattle.original.specs.Framing.{Fed, feedIn, endOf, fedTo, storeOf, usizeMax, isComplete, consumeFrom, consume, nothing, range, receive, Address, Complete, Consumed}
 use Rattle.original.specs.View.{viewReading, viewReader}
-use Rattle.original.specs.Same.{fetchOf}
+use Rattle.original.specs.Domain.{Framed}
+use Rattle.original.specs.SameFraming.{fetchOf}
 use Rattle.original.proofs.Crc.{same-crc16}
 use Rattle.original.proofs.Bytes.{each-take, each-set}
 
 -- a reader in crate reading over a buffer of n bytes that has what it keeps
-pub record Plain (n : ℕ) (s : ours.Held) : Type 0 where
+pub record Steady (n : ℕ) (s : ours.Held) : Type 0 where
   pub kept : Kept n s
   pub crate-reading : s .reader .reading ≡ Crate
   pub bytes : Bytes (s .buf)
@@ -113,9 +115,9 @@ bytes-kept reading.the-variants.Data h b k l =
     (cond-all P (ltb (h .reader .len) (length (h .buf))) (each-set (λ x. x < 256) (h .buf) (h .reader .len) (ours.plainOf (h .reader) b) k small) k))
 bytes-kept reading.the-variants.Complete h b k l = k
 
-step-plain : (n : ℕ) (s : ours.Held) (b : ℕ) → b < 256 → Plain n s → Plain n (ours.step s b)
+step-steady : (n : ℕ) (s : ours.Held) (b : ℕ) → b < 256 → Steady n s → Steady n (ours.step s b)
 unfolding ours.step
-step-plain n s b l p =
+step-steady n s b l p =
     record {
       kept = step-kept n s b (p .kept);
       crate-reading = crate-kept (s .reader .state) s b (p .crate-reading);
@@ -124,7 +126,7 @@ step-plain n s b l p =
 
 -- ---- a run of bytes
 
-complete-is : (s : reading.State) → isComplete (viewReading s) ≡ ours.isComplete s
+pub complete-is : (s : reading.State) → isComplete (viewReading s) ≡ ours.isComplete s
 complete-is reading.the-variants.Start = refl
 complete-is reading.the-variants.Address = refl
 complete-is reading.the-variants.Data = refl
@@ -134,7 +136,7 @@ complete-is reading.the-variants.Complete = refl
 abbrev ranTo : ℕ → List ℕ → ours.Fed → Run Consumed
 ranTo i bs f = returns (record { count = i + (length bs - length (f .left)); reader = viewReader (f .now .reader); buf = f .now .buf })
 
-pub fed-is : (n i : ℕ) (s : ours.Held) (bs : List ℕ) → n < 2 ^ 64 → Plain n s → Bytes bs
+pub fed-is : (n i : ℕ) (s : ours.Held) (bs : List ℕ) → n < 2 ^ 64 → Steady n s → Bytes bs
     → consumeFrom i (viewReader (s .reader)) (s .buf) bs ≡ ranTo i bs (ours.fed s bs)
 unfolding consumeFrom ours.fed ours.step
 fed-is n i s [] big p h = let e : i + (0 - 0) ≡ i = omega arith in rw e refl
@@ -142,7 +144,7 @@ fed-is n i s (b ∷ bs) big p h =
     rw (complete-is (s .reader .state))
     (by-test (ours.isComplete (s .reader .state))
     (λ t. let e : i + (suc (length bs) - suc (length bs)) ≡ i = omega arith in rw t (rw e refl))
-    (λ t. rw t (step ∙ fed-is n (i + 1) (ours.step s b) bs big (step-plain n s b (h .0) p) (h .1) ∙ counted (ours.fed (ours.step s b) bs) (fed-left-le (ours.step s b) bs))))
+    (λ t. rw t (step ∙ fed-is n (i + 1) (ours.step s b) bs big (step-steady n s b (h .0) p) (h .1) ∙ counted (ours.fed (ours.step s b) bs) (fed-left-le (ours.step s b) bs))))
   where
     step : (feedIn (viewReading (s .reader .state)) (viewReader (s .reader)) (s .buf) b >>= λ f. consumeFrom (i + 1) (f .reader) (f .buf) bs)
         ≡ consumeFrom (i + 1) (viewReader (ours.step s b .reader)) (ours.step s b .buf) bs
@@ -155,7 +157,7 @@ fed-is n i s (b ∷ bs) big p h =
 
 -- ---- the calls
 
-fed-crate : (s : ours.Held) (bs : List ℕ) → s .reader .reading ≡ Crate → ours.fed s bs .now .reader .reading ≡ Crate
+pub fed-crate : (s : ours.Held) (bs : List ℕ) → s .reader .reading ≡ Crate → ours.fed s bs .now .reader .reading ≡ Crate
 unfolding ours.fed ours.step
 fed-crate s [] e = e
 fed-crate s (b ∷ bs) e = cond-all (λ (f : ours.Fed). f .now .reader .reading ≡ Crate) (ours.full s) e (fed-crate (ours.step s b) bs (crate-kept (s .reader .state) s b e))
@@ -163,26 +165,28 @@ fed-crate s (b ∷ bs) e = cond-all (λ (f : ours.Fed). f .now .reader .reading 
 -- what our consume promises, in crate reading, is what the original does
 module _ (r : reader.FrameReader) (buf bs : List ℕ) (crate : r .reading ≡ Crate) (room : r .len ≤ length buf) (big : length buf < 2 ^ 64) (bytes : Bytes buf) (given : Bytes bs) where
   pub same-consume : {o : Outcome} {k : ℕ} {r′ : reader.FrameReader} {buf′ : List ℕ} → ours.Consumes (ours.held r buf) bs o k r′ buf′
-      → (consume (viewReader r) buf bs ≡ returns (record { count = k; reader = viewReader r′; buf = buf′ })) × (r′ .reading ≡ Crate)
+      → (outcomeNumber o ≡ 0) × (consume (viewReader r) buf bs ≡ returns (record { count = k; reader = viewReader r′; buf = buf′ })) × (r′ .reading ≡ Crate)
   same-consume c =
-      let plain : Plain (length buf) (ours.held r buf) = record { kept = record { room = refl; within = room }; crate-reading = crate; bytes = bytes } in
+      let steady : Steady (length buf) (ours.held r buf) = record { kept = record { room = refl; within = room }; crate-reading = crate; bytes = bytes } in
       let now = consumed-fed (ours.held r buf) bs room in (
-        fed-is (length buf) 0 (ours.held r buf) bs big plain given
+        c .number ∙ rw (le-ltb (length buf) (r .len) room) refl,
+        fed-is (length buf) 0 (ours.held r buf) bs big steady given
             ∙ rw (c .count, c .reader, c .bytes, now) (let e : 0 + (length bs - length (ours.fed (ours.held r buf) bs .left)) ≡ length bs - length (ours.fed (ours.held r buf) bs .left) = omega arith in rw e refl),
         rw (c .reader, now) (fed-crate (ours.held r buf) bs crate),
       )
 
 -- what our receive promises: the packet's range, or nothing; a complete frame with under three bytes kept is refusal 5 here
-pub receive-is : (r : reader.FrameReader) → (ours.isComplete (r .state) ≡ true → 3 ≤ r .len)
+pub receive-is : (r : reader.FrameReader) → Framed r
     → receive (viewReader r) ≡ returns (cond (ours.isComplete (r .state)) (range 1 (r .len - 2) (viewReader (ours.fetched r))) (nothing (viewReader r)))
 unfolding receive
 receive-is r h =
     rw (complete-is (r .state))
     (by-test (ours.isComplete (r .state)) (λ t. rw (t, le-ltb (r .len) 2 (omega (arith, h t))) refl) (λ t. rw t refl))
 
-pub same-receive : {r r′ : reader.FrameReader} {g : Got} → ours.Receives r g r′ → (ours.isComplete (r .state) ≡ true → 3 ≤ r .len)
-    → (receive (viewReader r) ≡ returns (fetchOf g (viewReader r′))) × (r′ .reading ≡ r .reading)
+pub same-receive : {r r′ : reader.FrameReader} {g : Got} → ours.Receives r g r′ → Framed r
+    → (ours.gotNumber g ≡ 0) × (receive (viewReader r) ≡ returns (fetchOf g (viewReader r′))) × (r′ .reading ≡ r .reading)
 same-receive {r} {r′} {g} c h = (
+  receives-done h c,
   receive-is r h
       ∙ by-test (ours.isComplete (r .state))
       (λ t.

@@ -3,7 +3,7 @@
 use mathlib.Core.Path.{_≡_, refl, ap}
 use mathlib.Core.Bool.{true, false, cond, false≢true}
 use mathlib.Core.List.{List, [], _∷_}
-use Prim.Native.Nat.{ℕ, _+_, _<_}
+use Prim.Native.Nat.{ℕ, _+_, _≤_, _<_}
 use native.Mathlib.Nat.{mod-lt}
 use native.Mathlib.Omega.{arith}
 use borrow.Author.Tests.{ltb-true, ltb-false}
@@ -18,7 +18,7 @@ use Rattle.options.specs.Wire.{protocolIn}
 use Rattle.negotiation.specs.Automaton.{rejectTurn}
 use Rattle.phases.specs.Phases.{PppTurn, lcpTurn, ipv4cpTurn, papTurn, rejectOf, receivedOf}
 use Rattle.options.specs.declared.refusal.Refusal.{Refusal}
-use Rattle.options.specs.declared.refusal.Refusal.the-variants.{PacketShort, ReplyLong}
+use Rattle.options.specs.declared.refusal.Refusal.the-variants.{ReplyLong}
 use Rattle.options.specs.declared.refusal.Outcome.the-variants.{Done, Refused}
 use Rattle.options.specs.declared.proto.Proto.the-variants as proto
 use Rattle.phases.specs.declared.ppp.Ppp as ppp
@@ -28,7 +28,7 @@ use Rattle.original.specs.Fsm.{Handled, packetOf}
 use Rattle.original.specs.Protocols.{Lcp, lcpProtocol, Ipv4cp, ipv4cpProtocol, PapHandled}
 use Rattle.original.specs.Ppp as theirs
 use Rattle.original.specs.View.{viewLcp, viewIpv4cp, viewPpp}
-use Rattle.original.specs.Same.{numberAt}
+use Rattle.original.specs.Panics.{numberAt}
 use Rattle.original.proofs.Frames.{Carried, none, more}
 use Rattle.original.proofs.Packets.{carries-ppp}
 use Rattle.original.proofs.Automaton as automaton
@@ -83,12 +83,12 @@ module _ (p : ppp.Ppp) (held : Held p) (pkt : List ℕ) where
       next : ours.nextId (p .lcp .id) < 256
       next = mod-lt (p .lcp .id + 1) {m = 256} (lit< tt)
 
-  -- an IPv4 packet does not come here
-  pub received-same : Bytes pkt → eqb (protocolIn pkt) 0x0021 ≡ false → SameReceived pkt (theirs.received (viewPpp p) pkt) (receivedOf p pkt)
+  -- an IPv4 packet and one under two bytes do not come here
+  pub received-same : 2 ≤ length pkt → Bytes pkt → eqb (protocolIn pkt) 0x0021 ≡ false → SameReceived pkt (theirs.received (viewPpp p) pkt) (receivedOf p pkt)
   unfolding theirs.received receivedOf
-  received-same bytes other =
+  received-same long-enough bytes other =
       let n = protocolIn pkt in
-      cond-both (SameReceived pkt) {t = ltb (length pkt) 2} refl (λ _. stops PacketShort refl refl)
+      cond-both (SameReceived pkt) {t = ltb (length pkt) 2} refl (λ t. absurd (omega (arith, ltb-true (length pkt) 2 t)))
       (λ _. by-test (eqb n 0xC021)
       (λ t. rw t (lcp-turn _ _ (handle-same lcpProtocol proto.Lcp viewLcp lcp-stands (p .lcp .id) (p .lcp .state) (p .lcp .proto) pkt (held .lcp-id) bytes)))
       (λ t. rw t (by-test (eqb n 0xC023)

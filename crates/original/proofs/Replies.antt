@@ -28,7 +28,7 @@ use Rattle.options.proofs.Replying.{listed-lower, listed-long, listed-higher, l
 use Rattle.original.specs.Run.{Place, Run, returns, panics, _>>=_, unwrap, optionsCut}
 use Rattle.original.specs.Wire.{protocolNumber, OptionVal}
 use Rattle.original.specs.Fsm.{Verdict, Ack, Nack, Rej, Protocol, Answer, retOf, rankOption, peerOption, pushOwn, nackOption}
-use Rattle.original.specs.Same.{numberAt}
+use Rattle.original.specs.Panics.{numberAt}
 use Rattle.original.proofs.Walk.{over, ByteWalk}
 use Rattle.original.proofs.Packets.{Lists, lists-none, lists-more}
 

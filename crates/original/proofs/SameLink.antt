@@ -1,66 +1,67 @@
--- The same link as before: every call of ours is the original's.
+-- The same link as before: every call of ours is the original's where that returns.
 -- Assumes nothing.
-use mathlib.Core.Path.{_≡_, refl, _∙_}
-use mathlib.Core.Bool.{true}
+use mathlib.Core.Path.{_≡_, refl, sym, _∙_}
+use mathlib.Core.Bool.{true, true≢false}
 use mathlib.Core.List.{List}
-use Prim.Native.Nat.{ℕ, _≤_, _<_}
-use native.Mathlib.Nat.{sub-self}
+use Prim.Native.Nat.{ℕ, _-_, _≤_, _<_}
+use native.Mathlib.Omega.{arith}
 use borrow.Author.Tests.{lt-ltb, le-ltb}
+use lib.Dec.{ltb}
 use lib.ListN.{length}
 use Rattle.framing.specs.Reader.{isComplete, fetched}
-use Rattle.framing.specs.declared.refusal.Refusal.the-variants.{BufferShort, FrameShort}
-use Rattle.framing.proofs.Reader.{consumed-short}
-use Rattle.link.specs.Link.{linkOf, heldBy, Consumes, declined, pollLink, Polls}
+use Rattle.framing.specs.declared.frame_reader.FrameReader.{FrameReader}
+use Rattle.framing.specs.declared.refusal.Refusal.the-variants.{FrameShort}
+use Rattle.link.specs.Link.{linkOf, declined, pollLink, Polls}
 use Rattle.link.specs.declared.refusal.Refusal.the-variants.{Framing}
-use Rattle.link.specs.declared.refusal.Outcome.{Outcome}
-use Rattle.link.specs.declared.refusal.Outcome.the-variants.{Refused}
 use Rattle.link.specs.declared.pppos.PPPoS.{PPPoS}
 use Rattle.link.specs.declared.pppos.PPPoSAction.{PPPoSAction}
-use Rattle.laws.proofs.Cases.{apart}
-use Rattle.original.specs.Run.{Run, returns}
+use Rattle.laws.proofs.Cases.{apart, by-le, by-test, cond-all}
+use Rattle.original.specs.Run.{Place, Run, returns, panics}
+use Rattle.original.specs.Framing.{receive}
 use Rattle.original.specs.Pppos as theirs
-use Rattle.original.specs.View.{viewLink, asAction}
-use Rattle.original.specs.Same.{SameFraming, Plain, Lent, SamePoll, same, full, dropped, opens, SameLink}
+use Rattle.original.specs.View.{viewLink}
+use Rattle.original.specs.Domain.{InDomain, Framed}
+use Rattle.original.specs.SameFraming.{SameFraming}
+use Rattle.original.specs.Same.{SamePolled, SameLink}
+use Rattle.original.specs.Panics.{numberAt, SamePoll, same, refuses, opens, unframedAt}
 use Rattle.original.proofs.Crc.{same-crc16}
 use Rattle.original.proofs.Writer.{same-start, same-append, same-finish}
-use Rattle.original.proofs.Reader.{same-consume, same-receive}
-use Rattle.original.proofs.Calls.{same-new, same-open, same-status, same-consume-link}
+use Rattle.original.proofs.Reader.{complete-is, same-consume, same-receive}
+use Rattle.original.proofs.Calls.{new-fits, same-open, same-status, same-consume-link}
 use Rattle.original.proofs.Link.{same-poll}
 use Rattle.original.proofs.Send.{same-send}
 
-polls-same : (l : PPPoS) (tx rx : List ℕ) → Plain l → Lent l rx → (isComplete (l .«frame_reader» .state) ≡ true → 3 ≤ l .«frame_reader» .len)
-    → {a : PPPoSAction} {l′ : PPPoS} {tx′ rx′ : List ℕ} → Polls (pollLink l tx rx) a l′ tx′ rx′
+pub polls-same : (l : PPPoS) (tx rx : List ℕ) → InDomain l rx → Framed (l .«frame_reader») → {a : PPPoSAction} {l′ : PPPoS} {tx′ rx′ : List ℕ} → Polls (pollLink l tx rx) a l′ tx′ rx′
     → SamePoll l tx rx (theirs.poll (viewLink l) tx rx) (record { action = a; link = l′; tx = tx′; rx = rx′ })
-polls-same l tx rx p lent framed c = rw (c .action, c .link, c .transmit, c .receive) (same-poll l tx rx p lent framed)
+polls-same l tx rx d framed c = rw (c .action, c .link, c .transmit, c .receive) (same-poll l tx rx d framed)
 
-polls-domain : (l : PPPoS) (tx rx : List ℕ) → Plain l → Lent l rx → (isComplete (l .«frame_reader» .state) ≡ true → 3 ≤ l .«frame_reader» .len)
-    → {a : PPPoSAction} {l′ : PPPoS} {tx′ rx′ : List ℕ} → Polls (pollLink l tx rx) a l′ tx′ rx′ → {o : theirs.Poll} → theirs.poll (viewLink l) tx rx ≡ returns o
-    → (a ≡ asAction (o .action)) × (viewLink l′ ≡ o .link) × (tx′ ≡ o .tx) × (rx′ ≡ o .rx)
-polls-domain l tx rx p lent framed {a} {l′} {tx′} {rx′} c {o} e = go (theirs.poll (viewLink l) tx rx) e (polls-same l tx rx p lent framed c)
+pub poll-unframed : (l : PPPoS) (tx rx : List ℕ) → l .«frame_reader» .len ≤ length rx → isComplete (l .«frame_reader» .state) ≡ true → l .«frame_reader» .len < 3
+    → (pollLink l tx rx ≡ declined (Framing FrameShort) (linkOf (fetched (l .«frame_reader»)) (l .ppp)) tx rx)
+    × (theirs.poll (viewLink l) tx rx ≡ panics (unframedAt (l .«frame_reader» .len))) × (numberAt (unframedAt (l .«frame_reader» .len)) ≡ 5)
+unfolding pollLink theirs.poll theirs.handleInput receive
+poll-unframed l tx rx room e h =
+    let n = l .«frame_reader» .len in
+    let whole = complete-is (l .«frame_reader» .state) ∙ e in (
+      rw (le-ltb (length rx) n room, e, lt-ltb n 3 h) refl,
+      by-le 2 n (λ k. rw (whole, le-ltb n 2 k, lt-ltb (n - 2) 1 (omega arith)) refl) (λ k. rw (whole, lt-ltb n 2 k) refl),
+      cond-all (λ (p : Place). numberAt p ≡ 5) (ltb n 2) refl refl,
+    )
+
+-- a complete frame has three bytes or more kept, or not
+pub by-framed : {P : Type 0} (r : FrameReader) → (Framed r → P) → (isComplete (r .state) ≡ true → r .len < 3 → P) → P
+by-framed r f g = by-le 3 (r .len) (λ h. f (λ _. h)) (λ h. by-test (isComplete (r .state)) (λ t. g t h) (λ t. f (λ u. absurd (true≢false (sym u ∙ t)))))
+
+-- with under three bytes of a complete frame kept the original does not return
+polls-domain : (l : PPPoS) (tx rx : List ℕ) → InDomain l rx → {a : PPPoSAction} {l′ : PPPoS} {tx′ rx′ : List ℕ} → Polls (pollLink l tx rx) a l′ tx′ rx′
+    → {o : theirs.Poll} → theirs.poll (viewLink l) tx rx ≡ returns o → SamePolled o a l′ tx′ rx′
+polls-domain l tx rx d {a} {l′} {tx′} {rx′} c {o} e =
+    by-framed (l .«frame_reader») (λ framed. go (theirs.poll (viewLink l) tx rx) e (polls-same l tx rx d framed c))
+    (λ t h. let z = poll-unframed l tx rx (d .lent .room) t h .1 in apart cc)
   where
-    go : (x : Run theirs.Poll) → x ≡ returns o → SamePoll l tx rx x (record { action = a; link = l′; tx = tx′; rx = rx′ })
-        → (a ≡ asAction (o .action)) × (viewLink l′ ≡ o .link) × (tx′ ≡ o .tx) × (rx′ ≡ o .rx)
-    go x k (same {o = q} h i j m n) =
-        let z : q ≡ o = cc in
-        (rw z at h, rw z at i, rw z at m, rw z at n)
-    go x k (full h) = apart (cc)
-    go x k (dropped why h i) = apart (cc)
-    go x k (opens b m w d h i) = apart (cc)
-
-poll-unframed : (l : PPPoS) (tx rx : List ℕ) → l .«frame_reader» .len ≤ length rx → isComplete (l .«frame_reader» .state) ≡ true → l .«frame_reader» .len < 3
-    → pollLink l tx rx ≡ declined (Framing FrameShort) (linkOf (fetched (l .«frame_reader»)) (l .ppp)) tx rx
-unfolding pollLink
-poll-unframed l tx rx room e h = rw (le-ltb (length rx) (l .«frame_reader» .len) room, e, lt-ltb (l .«frame_reader» .len) 3 h) refl
-
-poll-short : (l : PPPoS) (tx rx : List ℕ) → length rx < l .«frame_reader» .len → pollLink l tx rx ≡ declined (Framing BufferShort) l tx rx
-unfolding pollLink
-poll-short l tx rx h = rw (lt-ltb (length rx) (l .«frame_reader» .len) h) refl
-
-consume-short : (l : PPPoS) (rx bs : List ℕ) → length rx < l .«frame_reader» .len → {o : Outcome} {n : ℕ} {l′ : PPPoS} {rx′ : List ℕ} → Consumes l rx bs o n l′ rx′
-    → (o ≡ Refused (Framing BufferShort)) × (n ≡ 0) × (l′ ≡ l) × (rx′ ≡ rx)
-consume-short l rx bs h c =
-    let e = consumed-short (heldBy l rx) bs h in
-    (c .outcome ∙ rw (lt-ltb (length rx) (l .«frame_reader» .len) h) refl, c .count ∙ rw (e, sub-self) refl, c .link ∙ rw e refl, c .bytes ∙ rw e refl)
+    go : (x : Run theirs.Poll) → x ≡ returns o → SamePoll l tx rx x (record { action = a; link = l′; tx = tx′; rx = rx′ }) → SamePolled o a l′ tx′ rx′
+    go x k (same {o = q} h) = let z : q ≡ o = cc in rw z at h
+    go x k (refuses h) = apart cc
+    go x k (opens unreached b m w f h i) = apart cc
 
 pub same-framing : SameFraming
 same-framing =
@@ -78,14 +79,10 @@ same-framing =
 pub same-link : SameLink
 same-link =
     record {
-      new = same-new;
+      new = λ name password h c. new-fits name password c h;
       «open» = same-open;
       status = same-status;
       consume = same-consume-link;
-      poll = polls-same;
-      domain = polls-domain;
+      poll = polls-domain;
       send = same-send;
-      unframed = poll-unframed;
-      short-poll = poll-short;
-      short-consume = consume-short;
     }

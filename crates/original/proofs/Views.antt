@@ -26,7 +26,8 @@ use Rattle.original.specs.Protocols as protocols
 use Rattle.original.specs.Ppp as ppp
 use Rattle.original.specs.Pppos as theirs
 use Rattle.original.specs.View.{viewReading, viewReader, viewState, viewAuth, viewPapState, viewPhase, viewLcpFsm, viewIpv4cpFsm, viewLink}
-use Rattle.original.specs.Same.{Alike, Whole}
+use Rattle.original.specs.Domain.{Whole}
+use Rattle.original.specs.Alike.{Alike}
 
 -- ---- the way back, for each part
 

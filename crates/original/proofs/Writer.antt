@@ -20,7 +20,7 @@ use Rattle.framing.proofs.Run.{run-next, run-stop}
 use Rattle.original.specs.Crc.{crc16}
 use Rattle.original.specs.Framing.{FrameWriter, Wrote, try, withCrc, appendRaw, escapes, appendEscaped, start, finish, append}
 use Rattle.original.specs.View.{viewWriter}
-use Rattle.original.specs.Same.{SameWrite}
+use Rattle.original.specs.SameFraming.{SameWrite}
 use Rattle.original.proofs.Crc.{same-crc16}
 
 -- ---- which bytes are escaped

@@ -7,4 +7,9 @@ pub mod Protocols
 pub mod Ppp
 pub mod Pppos
 pub mod View
+pub mod Domain
+pub mod SameFraming
 pub mod Same
+pub mod History
+pub mod Panics
+pub mod Alike

@@ -1,11 +1,11 @@
 -- pppos/mod.rs.
-use mathlib.Core.Bool.{cond, _||_}
+use mathlib.Core.Bool.{cond}
 use mathlib.Core.List.{List, [], _∷_, _++_}
 use Prim.Native.Nat.{ℕ, _+_, _-_}
 use lib.Dec.{ltb, eqb}
 use lib.ListN.{length, take, drop}
 use Rattle.laws.specs.Be.{beOf, beBytes}
-use Rattle.original.specs.Run.{Run, returns, panics, pollRange, pollSlice, replyLong, replyFull, _>>=_, Result, ok, err}
+use Rattle.original.specs.Run.{Run, returns, panics, pollOrder, pollRange, pollSlice, replyLong, replyFull, _>>=_, Result, ok, err}
 use Rattle.original.specs.Framing.{FrameWriter, newWriter, newWithAsyncmap, Wrote, try, start, append, finish, FrameReader, newReader, Fetch, nothing, range, receive, consume}
 use Rattle.original.specs.Wire.{ProtocolType, Unknown, LCP, PAP, IPv4, IPv4CP, protocolFrom, Packet, packetLen, emit}
 use Rattle.original.specs.Ppp.{Ppp, newPpp, openIn, Status, status, received, pollPpp}
@@ -96,8 +96,9 @@ pollPacket l w from to rx pkt = cond (ltb (length pkt) 2) (panics pollSlice) (po
 abbrev pub pollFetch : PPPoS → FrameWriter → List ℕ → Fetch → Run Input
 pollFetch l w rx (nothing r) = returns (goesOn (record { frameReader = r; ppp = l .ppp }) w rx)
 pollFetch l w rx (range from to r) =
-    cond (ltb to from || ltb (length rx) to) (panics pollRange)
-    (pollPacket (record { frameReader = r; ppp = l .ppp }) w from to rx (take (to - from) (drop from rx)))
+    cond (ltb to from) (panics pollOrder)
+    (cond (ltb (length rx) to) (panics pollRange)
+    (pollPacket (record { frameReader = r; ppp = l .ppp }) w from to rx (take (to - from) (drop from rx))))
 
 unfoldable pub handleInput : PPPoS → List ℕ → List ℕ → Run Input
 handleInput l tx rx = receive (l .frameReader) >>= pollFetch l (newWriter tx) rx

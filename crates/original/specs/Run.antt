@@ -12,8 +12,10 @@ pub data Place : Type 0 where
   nameLong passwordLong papOpen papSlice : Place
   -- ppp/mod.rs, received: `pkt[0..2]`; `todo!()`
   receivedSlice receivedIp : Place
-  -- pppos/mod.rs, poll: `&mut rx_buf[range]`; `pkt[0..2]`; `assert!(len <= buf.len())`; `w.start().unwrap()` and the two behind it
-  pollRange pollSlice replyLong replyFull : Place
+  -- pppos/mod.rs, poll: `&mut rx_buf[range]`, of a range that runs backwards, and of one that ends behind the buffer
+  pollOrder pollRange : Place
+  -- pppos/mod.rs, poll: `pkt[0..2]`; `assert!(len <= buf.len())`; `w.start().unwrap()` and the two behind it
+  pollSlice replyLong replyFull : Place
 
 pub data Run (A : Type 0) : Type 0 where
   returns : A → Run A

@@ -66,7 +66,9 @@ fn number(name: &str, line: &str, message: &str) -> u32 {
     let at = |part: &str| line.contains(part);
     if message.contains("BufferFullError") {
         1
-    } else if at("rx_buf[range") {
+    } else if at("rx_buf[range") && message.contains("starts at 1 but ends at 0") {
+        5
+    } else if at("rx_buf[range") || at("buf[0] == 0x03") || at("&buf[..self.len]") {
         3
     } else if at("pkt[0..2].try_into") || at("Some(1..len - 2)") {
         5

@@ -1,0 +1,57 @@
+-- Document 01's domain: what our link holds, what is lent to a call, and what every call keeps of it.
+use mathlib.Core.Path.{_≡_}
+use mathlib.Core.Bool.{true}
+use mathlib.Core.List.{List}
+use Prim.Native.Nat.{ℕ, _+_, _^_, _≤_, _<_}
+use lib.ListN.{length}
+use Rattle.laws.specs.Each.{Bytes}
+use Rattle.framing.specs.Reader.{isComplete, freshReader}
+use Rattle.framing.specs.declared.frame_reader.FrameReader.{FrameReader}
+use Rattle.framing.specs.declared.frame_reader.Reading.the-variants.{Crate}
+use Rattle.negotiation.specs.declared.pap.Pap.{Pap}
+use Rattle.phases.specs.Phases.{newOf, openOf}
+use Rattle.link.specs.Link.{Changes, Consumes, pollLink, Polls}
+use Rattle.link.specs.declared.refusal.Outcome.{Outcome}
+use Rattle.link.specs.declared.pppos.PPPoS.{PPPoS}
+use Rattle.link.specs.declared.pppos.PPPoSAction.{PPPoSAction}
+
+-- a link in crate reading, with ids and credentials that are bytes
+pub record Lasting (l : PPPoS) : Type 0 where
+  pub crate-reading : l .«frame_reader» .reading ≡ Crate
+  pub lcp-id : l .ppp .lcp .id < 256
+  pub ipv4cp-id : l .ppp .ipv4cp .id < 256
+  pub pap-id : l .ppp .pap .id < 256
+  pub credentials : Bytes (l .ppp .pap .bytes)
+
+-- a receive buffer that has what the link keeps: a slice of bytes
+pub record Lent (l : PPPoS) (rx : List ℕ) : Type 0 where
+  pub room : l .«frame_reader» .len ≤ length rx
+  pub slice : length rx < 2 ^ 64
+  pub bytes : Bytes rx
+
+pub record InDomain (l : PPPoS) (rx : List ℕ) : Type 0 where
+  pub lasting : Lasting l
+  pub lent : Lent l rx
+
+-- ---- what every call keeps
+
+-- Complete only with three bytes or more kept
+abbrev pub Framed : FrameReader → Type 0
+Framed r = isComplete (r .state) ≡ true → 3 ≤ r .len
+
+-- credentials as new leaves them: an array of 120 bytes, and lengths that it has
+pub record Whole (p : Pap) : Type 0 where
+  pub array : length (p .bytes) ≡ 120
+  pub fits : p .«username_len» + p .«password_len» ≤ 120
+
+pub record Kept (l : PPPoS) : Type 0 where
+  pub lasting : Lasting l
+  pub whole : Whole (l .ppp .pap)
+  pub framed : Framed (l .«frame_reader»)
+
+-- it holds of new's link and survives every call, refusals included, whatever bytes are lent; send and status leave the link
+pub record Lasts : Type 0 where
+  pub new : (name password : List ℕ) → Bytes name → Bytes password → {o : Outcome} {l : PPPoS} → Changes (newOf name password) (freshReader Crate) o l → Kept l
+  pub «open» : (l : PPPoS) → Kept l → {o : Outcome} {l′ : PPPoS} → Changes (openOf (l .ppp)) (l .«frame_reader») o l′ → Kept l′
+  pub consume : (l : PPPoS) (rx bs : List ℕ) → Kept l → {o : Outcome} {n : ℕ} {l′ : PPPoS} {rx′ : List ℕ} → Consumes l rx bs o n l′ rx′ → Kept l′
+  pub poll : (l : PPPoS) (tx rx : List ℕ) → Bytes rx → Kept l → {a : PPPoSAction} {l′ : PPPoS} {tx′ rx′ : List ℕ} → Polls (pollLink l tx rx) a l′ tx′ rx′ → Kept l′
