@@ -109,8 +109,9 @@ calls-same (next {l} {c} {a} {m} {cs} {xs} {n} one rest) k r e = go (λ q f. cal
 
     rests : More → (s : Answered) → callOf (viewLink l) c ≡ returns s → SameCall a m s → (y : Run Ran) → callsOf (s .link) cs ≡ y → Goal
     rests others s f same (returns q) g =
+        let behind : Run Ran → Run Ran = λ y. y >>= λ q. returns (record { answers = s .answer ∷ q .answers; link = q .link }) in
         let more = others q (ap (λ (x : theirs.PPPoS). callsOf x cs) (same .link) ∙ g) in
-        let all : callsOf (viewLink l) (c ∷ cs) ≡ returns (record { answers = s .answer ∷ q .answers; link = q .link }) = rw (f, g) refl in
+        let all : callsOf (viewLink l) (c ∷ cs) ≡ returns (record { answers = s .answer ∷ q .answers; link = q .link }) = rw f (ap behind g) in
         let z : record { answers = s .answer ∷ q .answers; link = q .link } ≡ r = cc (all, e) in
         (rw (← z) (ap₂ (λ (x : OurAnswer) (y : List OurAnswer). x ∷ y) (same .answer) (more .0)), rw (← z) (more .1))
     rests others s f same (panics place) g = apart cc
