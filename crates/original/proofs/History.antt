@@ -13,20 +13,24 @@ use Rattle.original.specs.Run.{Run, returns, panics, _>>=_, Result, ok, 
 use Rattle.original.specs.Framing.{Wrote}
 use Rattle.original.specs.Pppos as theirs
 use Rattle.original.specs.View.{viewLink}
-use Rattle.original.specs.Domain.{Kept}
+use Rattle.original.specs.Domain.{Lasting, Framed}
 use Rattle.original.specs.Same.{SameOpen, SameSend}
 use Rattle.original.specs.History as history
 use Rattle.original.specs.History.{Call, Answered, openedBy, sentBy, callOf, Ran, callsOf, runOf, OurAnswer, asAnswer, Called, Calls, none, next, History, SameHistory}
 use Rattle.original.proofs.SameLink.{same-link}
-use Rattle.original.proofs.Lasting.{kept-lasts}
+use Rattle.original.proofs.Lasting.{all-last}
 
 -- ---- what a call keeps
 
+pub record Kept (l : PPPoS) : Type 0 where
+  pub lasting : Lasting l
+  pub framed : Framed (l .«frame_reader»)
+
 call-kept : {l : PPPoS} {c : Call} {a : OurAnswer} {l′ : PPPoS} → Called l c a l′ → Kept l → Kept l′
-call-kept {l} (history.by-open c) k = kept-lasts .«open» l k c
+call-kept {l} (history.by-open c) k = record { lasting = all-last .lasting .«open» l (k .lasting) c; framed = all-last .framed .«open» l (k .framed) c }
 call-kept history.by-status k = k
-call-kept {l} (history.by-consume {bs} {rx} b lent c) k = kept-lasts .consume l rx bs k c
-call-kept {l} (history.by-poll {tx} {rx} lent c) k = kept-lasts .poll l tx rx (lent .bytes) k c
+call-kept {l} (history.by-consume {bs} {rx} b lent c) k = record { lasting = all-last .lasting .consume l rx bs (k .lasting) c; framed = all-last .framed .consume l rx bs (k .framed) c }
+call-kept {l} (history.by-poll {tx} {rx} lent c) k = record { lasting = all-last .lasting .poll l tx rx (lent .bytes) (k .lasting) c; framed = all-last .framed .poll l tx rx (lent .bytes) (k .framed) c }
 call-kept (history.by-send b c) k = k
 
 call-reached : {l : PPPoS} {c : Call} {a : OurAnswer} {l′ : PPPoS} → Called l c a l′ → Reached l → Reached l′
@@ -46,7 +50,11 @@ calls-reached (next c rest) h = calls-reached rest (call-reached c h)
 
 module _ {name password : List ℕ} {cs : List Call} {xs : List OurAnswer} {l : PPPoS} (h : History name password cs xs l) where
   fresh-kept : Kept (h .fresh)
-  fresh-kept = kept-lasts .new name password (h .name-bytes) (h .password-bytes) (h .new)
+  fresh-kept =
+      record {
+        lasting = all-last .lasting .new name password (h .name-bytes) (h .password-bytes) (h .new);
+        framed = all-last .framed .new name password (h .name-bytes) (h .password-bytes) (h .new);
+      }
 
   pub history-kept : Kept l
   history-kept = calls-kept (h .calls) fresh-kept

@@ -26,7 +26,7 @@ use Rattle.negotiation.specs.Pap.{fitsCredentials, withPapState, steppedPap, is
 use Rattle.negotiation.specs.declared.pap.Pap.{Pap}
 use Rattle.negotiation.specs.declared.pap.PapState.the-variants as papState
 use Rattle.negotiation.proofs.Paps.{fits-sum}
-use Rattle.phases.specs.Phases.{freshPpp, PppTurn, Step, rejectOf, receivedOf, byAuth, establishOf, authOf, networkOf, byPhase, diesOf, settled, phaseOf, pollOf, turnOf, isDead, openOf, newOf}
+use Rattle.phases.specs.Phases.{freshPpp, withPhase, withOpening, PppTurn, Step, rejectOf, receivedOf, byAuth, establishOf, authOf, networkOf, byPhase, diesOf, settled, phaseOf, pollOf, turnOf, isDead, newOf}
 use Rattle.phases.specs.declared.ppp.Phase.{Phase}
 use Rattle.phases.specs.declared.ppp.Phase.the-variants.{Dead, Establish, Auth, Network, Open}
 use Rattle.phases.specs.declared.ppp.Ppp.{Ppp}
@@ -36,7 +36,7 @@ use Rattle.link.specs.declared.pppos.PPPoS.{PPPoS}
 use Rattle.original.specs.Run.{Run}
 use Rattle.original.specs.Ppp as ppp
 use Rattle.original.specs.View.{viewPpp}
-use Rattle.original.specs.Domain.{Framed, Whole, Kept, Lasts}
+use Rattle.original.specs.Domain.{Lasting, Framed, Whole, Lasts, AllLast}
 use Rattle.original.proofs.Bytes.{each-take, each-drop}
 use Rattle.original.proofs.Reader.{fed-crate}
 use Rattle.original.proofs.Received.{Held, SameReceived, same, long, stops, received-same}
@@ -44,66 +44,58 @@ use Rattle.original.proofs.Opening as opening
 use Rattle.original.proofs.Phases.{phase-same}
 use Rattle.original.proofs.Link.{lasting-held}
 
--- what the link's record keeps, and what its reader does
-record Stays (p : Ppp) : Type 0 where
-  held : Held p
-  whole : Whole (p .pap)
+-- ---- any property, by what a poll is made of
 
-kept-by : (r : FrameReader) (p : Ppp) → r .reading ≡ Crate → Framed r → Stays p → Kept (linkOf r p)
-kept-by r p crate framed s =
-    let h = s .held in
-    record {
-      lasting = record { crate-reading = crate; lcp-id = h .lcp-id; ipv4cp-id = h .ipv4cp-id; pap-id = h .pap .id; credentials = h .pap .bytes };
-      whole = s .whole;
-      framed = framed;
-    }
+module _ (P : PPPoS → Type 0) (fetch : (r : FrameReader) (p : Ppp) → P (linkOf r p) → P (linkOf (reader.fetched r) p)) (step : (r : FrameReader) (p : Ppp) → P (linkOf r p) → P (linkOf r (phaseOf p .ppp)))
+    (hear : (r : FrameReader) (p : Ppp) (pkt : List ℕ) → Bytes pkt → isIp pkt ≡ false → isDone (receivedOf p pkt .outcome) ≡ true → P (linkOf r p) → P (linkOf r (receivedOf p pkt .ppp))) where
+  turn-lasts : (r : FrameReader) (p : Ppp) (pkt : List ℕ) → Bytes pkt → isIp pkt ≡ false → P (linkOf r p) → P (linkOf r (turnOf p pkt .ppp))
+  unfolding turnOf
+  turn-lasts r p pkt bytes other k =
+      cond-by (λ (t : PppTurn). P (linkOf r (t .ppp))) (isDone (receivedOf p pkt .outcome))
+      (λ done. step r (receivedOf p pkt .ppp) (hear r p pkt bytes other done k)) (λ _. k)
 
-stays : {l : PPPoS} → Kept l → Stays (l .ppp)
-stays k = record { held = lasting-held (k .lasting); whole = k .whole }
+  module _ (l : PPPoS) (tx rx : List ℕ) (bytes : Bytes rx) (k : P l) where
+    abbrev After : Poll → Type 0
+    After q = P (q .link)
 
--- ---- new and open
+    answered-lasts : (r : FrameReader) (t : PppTurn) → P (linkOf r (l .ppp)) → P (linkOf r (t .ppp)) → After (answered l r t tx rx)
+    unfolding answered
+    answered-lasts r t old new = go (t .outcome)
+      where
+        go : (o : Outcome) → After (byOutcome o l r t tx rx)
+        go Done = cond-all After (leb (length (frames (t .sent))) (length tx)) new k
+        go (Refused why) = old
 
-zeros : (n : ℕ) → Bytes (replicate n 0)
-zeros zero = tt
-zeros (suc n) = (lit< tt, zeros n)
+    poll-lasts : After (pollLink l tx rx)
+    unfolding pollLink packetPoll
+    poll-lasts =
+        let r = l .«frame_reader» in
+        let pkt = reader.packetOf (heldBy l rx) in
+        let next = fetch r (l .ppp) k in
+        let parts = each-take (λ b. b < 256) (r .len - 2 - 1) (drop 1 rx) (each-drop (λ b. b < 256) 1 rx bytes) in
+        cond-all After (reader.isShort (heldBy l rx)) k
+        (cond-all After (reader.isComplete (r .state))
+        (cond-all After (ltb (r .len) 3) next
+        (cond-by After (isIp pkt) (λ _. next) (λ other. answered-lasts (reader.fetched r) (turnOf (l .ppp) pkt) next (turn-lasts (reader.fetched r) (l .ppp) pkt parts other next))))
+        (answered-lasts r (pollOf (l .ppp)) k (step r (l .ppp) k)))
 
-fresh-kept : (name password : List ℕ) → Bytes name → Bytes password → length name + length password ≤ 120 → Kept (linkOf (reader.freshReader Crate) (freshPpp name password))
-fresh-kept name password b c h =
-    let both = name ++ password in
-    let n = length-append name password in
-    kept-by (reader.freshReader Crate) (freshPpp name password) refl (fresh-framed Crate)
-    (record {
-      held =
-          record {
-            lcp-id = lit< tt;
-            ipv4cp-id = lit< tt;
-            pap = record { id = lit< tt; bytes = each-append (λ x. x < 256) both (replicate (120 - length both) 0) (each-append (λ x. x < 256) name password b c) (zeros (120 - length both)) };
-          };
-      whole = record { array = omega (arith, length-append both (replicate (120 - length both) 0), length-replicate {A = ℕ} (120 - length both) 0); fits = h };
-    })
-
-new-kept : (name password : List ℕ) → Bytes name → Bytes password → Kept (linkOf (reader.freshReader Crate) (newOf name password .ppp))
-new-kept name password b c =
-    cond-by (λ (t : PppTurn). Kept (linkOf (reader.freshReader Crate) (t .ppp))) (fitsCredentials (length name) (length password))
-    (λ t. fresh-kept name password b c (fits-sum (length name) (length password) t))
-    (λ _. fresh-kept [] [] tt tt (lit≤ tt))
-
-open-kept : (l : PPPoS) → Kept l → Kept (linkOf (l .«frame_reader») (openOf (l .ppp) .ppp))
-open-kept l k =
-    let s = stays k in
-    let h = s .held in
-    cond-all (λ (t : PppTurn). Kept (linkOf (l .«frame_reader») (t .ppp))) (isDead (l .ppp .phase))
-    (kept-by (l .«frame_reader») _ (k .lasting .crate-reading) (k .framed) (record { held = record { lcp-id = h .lcp-id; ipv4cp-id = h .ipv4cp-id; pap = h .pap }; whole = s .whole })) k
-
--- ---- consume
-
-consumed-crate : (s : reader.Held) (bs : List ℕ) → s .reader .reading ≡ Crate → reader.consumed s bs .now .reader .reading ≡ Crate
-unfolding reader.consumed
-consumed-crate s bs e = cond-all (λ (f : reader.Fed). f .now .reader .reading ≡ Crate) (reader.isShort s) e (fed-crate s bs e)
-
-consume-kept : (l : PPPoS) (rx bs : List ℕ) → Kept l → Kept (linkOf (reader.consumed (heldBy l rx) bs .now .reader) (l .ppp))
-consume-kept l rx bs k =
-    kept-by (reader.consumed (heldBy l rx) bs .now .reader) (l .ppp) (consumed-crate (heldBy l rx) bs (k .lasting .crate-reading)) (consumed-framed (heldBy l rx) bs (k .framed)) (stays k)
+  -- and of the other calls
+  lasts-by : ((name password : List ℕ) → Bytes name → Bytes password → length name + length password ≤ 120 → P (linkOf (reader.freshReader Crate) (freshPpp name password)))
+      → ((r : FrameReader) (p : Ppp) → P (linkOf r p) → P (linkOf r (withOpening (withPhase p Establish) true)))
+      → ((l : PPPoS) (rx bs : List ℕ) → P l → P (linkOf (reader.consumed (heldBy l rx) bs .now .reader) (l .ppp))) → Lasts P
+  lasts-by fresh opened fed =
+      record {
+        new = λ name password b c x. rw (x .link) (made name password b c);
+        «open» = λ l k x. rw (x .link) (cond-all (λ (t : PppTurn). P (linkOf (l .«frame_reader») (t .ppp))) (isDead (l .ppp .phase)) (opened (l .«frame_reader») (l .ppp) k) k);
+        consume = λ l rx bs k x. rw (x .link) (fed l rx bs k);
+        poll = λ l tx rx b k x. rw (x .link) (poll-lasts l tx rx b k);
+      }
+    where
+      made : (name password : List ℕ) → Bytes name → Bytes password → P (linkOf (reader.freshReader Crate) (newOf name password .ppp))
+      made name password b c =
+          cond-by (λ (t : PppTurn). P (linkOf (reader.freshReader Crate) (t .ppp))) (fitsCredentials (length name) (length password))
+          (λ t. fresh name password b c (fits-sum (length name) (length password) t))
+          (λ _. fresh [] [] tt tt (lit≤ tt))
 
 -- ---- a received packet
 
@@ -172,57 +164,47 @@ phase-whole p w = settled-whole (byPhase (p .phase) p .ppp) (go (p .phase))
     go Network = cond-all (λ (x : Ppp). Whole (x .pap)) (isOpened (p .ipv4cp .state)) w w
     go Open = w
 
-phase-stays : {p : Ppp} → Stays p → Stays (phaseOf p .ppp)
-phase-stays {p} s = record { held = phase-held p (s .held); whole = phase-whole p (s .whole) }
+-- ---- the three
 
-turn-stays : {p : Ppp} (pkt : List ℕ) → Bytes pkt → isIp pkt ≡ false → Stays p → Stays (turnOf p pkt .ppp)
-unfolding turnOf
-turn-stays {p} pkt bytes other s =
-    cond-by (λ (t : PppTurn). Stays (t .ppp)) (isDone (receivedOf p pkt .outcome))
-    (λ done. phase-stays (record { held = received-held p pkt (s .held) bytes other done; whole = received-whole p pkt (s .whole) })) (λ _. s)
+zeros : (n : ℕ) → Bytes (replicate n 0)
+zeros zero = tt
+zeros (suc n) = (lit< tt, zeros n)
 
--- ---- poll
+lasting-by : (r : FrameReader) (p : Ppp) → r .reading ≡ Crate → Held p → Lasting (linkOf r p)
+lasting-by r p crate h = record { crate-reading = crate; lcp-id = h .lcp-id; ipv4cp-id = h .ipv4cp-id; pap-id = h .pap .id; credentials = h .pap .bytes }
 
-module _ (l : PPPoS) (tx rx : List ℕ) (bytes : Bytes rx) (k : Kept l) where
-  abbrev P : Poll → Type 0
-  P q = Kept (q .link)
+consumed-crate : (s : reader.Held) (bs : List ℕ) → s .reader .reading ≡ Crate → reader.consumed s bs .now .reader .reading ≡ Crate
+unfolding reader.consumed
+consumed-crate s bs e = cond-all (λ (f : reader.Fed). f .now .reader .reading ≡ Crate) (reader.isShort s) e (fed-crate s bs e)
 
-  abbrev r : FrameReader
-  r = l .«frame_reader»
+lasting-lasts : Lasts Lasting
+lasting-lasts =
+    lasts-by Lasting
+    (λ r p k. lasting-by (reader.fetched r) p (k .crate-reading) (lasting-held k))
+    (λ r p k. lasting-by r (phaseOf p .ppp) (k .crate-reading) (phase-held p (lasting-held k)))
+    (λ r p pkt bytes other done k. lasting-by r (receivedOf p pkt .ppp) (k .crate-reading) (received-held p pkt (lasting-held k) bytes other done))
+    (λ name password b c _.
+    let both = name ++ password in
+    let filled = each-append (λ x. x < 256) both (replicate (120 - length both) 0) (each-append (λ x. x < 256) name password b c) (zeros (120 - length both)) in
+    lasting-by (reader.freshReader Crate) (freshPpp name password) refl (record { lcp-id = lit< tt; ipv4cp-id = lit< tt; pap = record { id = lit< tt; bytes = filled } }))
+    (λ r p k. record { crate-reading = k .crate-reading; lcp-id = k .lcp-id; ipv4cp-id = k .ipv4cp-id; pap-id = k .pap-id; credentials = k .credentials })
+    (λ l rx bs k. lasting-by (reader.consumed (heldBy l rx) bs .now .reader) (l .ppp) (consumed-crate (heldBy l rx) bs (k .crate-reading)) (lasting-held k))
 
-  with : (r : FrameReader) (p : Ppp) → r .reading ≡ l .«frame_reader» .reading → Framed r → Stays p → Kept (linkOf r p)
-  with r p e = kept-by r p (e ∙ k .lasting .crate-reading)
-
-  answered-kept : (r : FrameReader) (t : PppTurn) → r .reading ≡ l .«frame_reader» .reading → Framed r → Stays (t .ppp) → P (answered l r t tx rx)
-  unfolding answered
-  answered-kept r t e f s = go (t .outcome)
-    where
-      go : (o : Outcome) → P (byOutcome o l r t tx rx)
-      go Done = cond-all P (leb (length (frames (t .sent))) (length tx)) (with r (t .ppp) e f s) k
-      go (Refused why) = with r (l .ppp) e f (stays k)
-
-  next-framed : Framed (reader.fetched r)
-  next-framed e = absurd (false≢true e)
-
-  poll-kept : P (pollLink l tx rx)
-  unfolding pollLink packetPoll
-  poll-kept =
-      let pkt = reader.packetOf (heldBy l rx) in
-      let next = reader.fetched r in
-      let parts = each-take (λ b. b < 256) (r .len - 2 - 1) (drop 1 rx) (each-drop (λ b. b < 256) 1 rx bytes) in
-      cond-all P (reader.isShort (heldBy l rx)) k
-      (cond-all P (reader.isComplete (r .state))
-      (cond-all P (ltb (r .len) 3) (with next (l .ppp) refl next-framed (stays k))
-      (cond-by P (isIp pkt) (λ _. with next (l .ppp) refl next-framed (stays k)) (λ other. answered-kept next (turnOf (l .ppp) pkt) refl next-framed (turn-stays pkt parts other (stays k)))))
-      (answered-kept r (pollOf (l .ppp)) refl (k .framed) (phase-stays (stays k))))
-
--- ---- the calls, by their contracts
-
-pub kept-lasts : Lasts
-kept-lasts =
+whole-lasts : Lasts (λ l. Whole (l .ppp .pap))
+whole-lasts =
+    lasts-by (λ l. Whole (l .ppp .pap)) (λ r p w. w) (λ r p w. phase-whole p w) (λ r p pkt _ _ _ w. received-whole p pkt w)
+    (λ name password _ _ h.
+    let both = name ++ password in
     record {
-      new = λ name password b c x. rw (x .link) (new-kept name password b c);
-      «open» = λ l k x. rw (x .link) (open-kept l k);
-      consume = λ l rx bs k x. rw (x .link) (consume-kept l rx bs k);
-      poll = λ l tx rx b k x. rw (x .link) (poll-kept l tx rx b k);
-    }
+      array = omega (arith, length-append name password, h, length-append both (replicate (120 - length both) 0), length-replicate {A = ℕ} (120 - length both) 0);
+      fits = h;
+    })
+    (λ r p w. w) (λ l rx bs w. w)
+
+framed-lasts : Lasts (λ l. Framed (l .«frame_reader»))
+framed-lasts =
+    lasts-by (λ l. Framed (l .«frame_reader»)) (λ r p _ e. absurd (false≢true e)) (λ r p k. k) (λ r p pkt _ _ _ k. k) (λ name password _ _ _. fresh-framed Crate) (λ r p k. k)
+    (λ l rx bs k. consumed-framed (heldBy l rx) bs k)
+
+pub all-last : AllLast
+all-last = record { lasting = lasting-lasts; whole = whole-lasts; framed = framed-lasts }

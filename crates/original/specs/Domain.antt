@@ -44,14 +44,15 @@ pub record Whole (p : Pap) : Type 0 where
   pub array : length (p .bytes) ≡ 120
   pub fits : p .«username_len» + p .«password_len» ≤ 120
 
-pub record Kept (l : PPPoS) : Type 0 where
-  pub lasting : Lasting l
-  pub whole : Whole (l .ppp .pap)
-  pub framed : Framed (l .«frame_reader»)
+-- P holds of new's link and survives every call, refusals included, whatever bytes are lent; send and status leave the link
+pub record Lasts (P : PPPoS → Type 0) : Type 0 where
+  pub new : (name password : List ℕ) → Bytes name → Bytes password → {o : Outcome} {l : PPPoS} → Changes (newOf name password) (freshReader Crate) o l → P l
+  pub «open» : (l : PPPoS) → P l → {o : Outcome} {l′ : PPPoS} → Changes (openOf (l .ppp)) (l .«frame_reader») o l′ → P l′
+  pub consume : (l : PPPoS) (rx bs : List ℕ) → P l → {o : Outcome} {n : ℕ} {l′ : PPPoS} {rx′ : List ℕ} → Consumes l rx bs o n l′ rx′ → P l′
+  pub poll : (l : PPPoS) (tx rx : List ℕ) → Bytes rx → P l → {a : PPPoSAction} {l′ : PPPoS} {tx′ rx′ : List ℕ} → Polls (pollLink l tx rx) a l′ tx′ rx′ → P l′
 
--- it holds of new's link and survives every call, refusals included, whatever bytes are lent; send and status leave the link
-pub record Lasts : Type 0 where
-  pub new : (name password : List ℕ) → Bytes name → Bytes password → {o : Outcome} {l : PPPoS} → Changes (newOf name password) (freshReader Crate) o l → Kept l
-  pub «open» : (l : PPPoS) → Kept l → {o : Outcome} {l′ : PPPoS} → Changes (openOf (l .ppp)) (l .«frame_reader») o l′ → Kept l′
-  pub consume : (l : PPPoS) (rx bs : List ℕ) → Kept l → {o : Outcome} {n : ℕ} {l′ : PPPoS} {rx′ : List ℕ} → Consumes l rx bs o n l′ rx′ → Kept l′
-  pub poll : (l : PPPoS) (tx rx : List ℕ) → Bytes rx → Kept l → {a : PPPoSAction} {l′ : PPPoS} {tx′ rx′ : List ℕ} → Polls (pollLink l tx rx) a l′ tx′ rx′ → Kept l′
+-- it is so of each of the three
+pub record AllLast : Type 0 where
+  pub lasting : Lasts Lasting
+  pub whole : Lasts (λ l. Whole (l .ppp .pap))
+  pub framed : Lasts (λ l. Framed (l .«frame_reader»))
