@@ -6,13 +6,14 @@ use mathlib.Core.List.{List, [], _∷_}
 use Prim.Native.Nat.{ℕ, _+_, _-_, _≤_, _<_}
 use native.Mathlib.Omega.{arith}
 use native.Mathlib.Nat.{sub-self}
-use borrow.Author.Tests.{lt-ltb, le-ltb}
+use borrow.Author.Tests.{lt-ltb, le-ltb, ne-eqb}
 use lib.Dec.{ltb, eqb, lit<}
 use lib.ListN.{length, getD}
 use Rattle.laws.proofs.Cases.{apart, by-le, cond-all}
 use Rattle.framing.specs.Reader as reader
 use Rattle.framing.specs.declared.frame_reader.FrameReader.{FrameReader}
 use Rattle.framing.specs.declared.frame_reader.Got.{Got}
+use Rattle.framing.specs.declared.frame_reader.State.the-variants as reading
 use Rattle.framing.specs.declared.refusal.Refusal.the-variants.{BufferShort}
 use Rattle.framing.proofs.Reader.{consumed-short}
 use Rattle.options.specs.Refusal.{numberOf}
@@ -108,6 +109,13 @@ short-consume l rx bs h {o} c =
     all : (l : PPPoS) (rx bs : List ℕ) → Checks (theirs.consumeLink (viewLink l) bs rx)
     all l rx bs = checks-then (consumeFrom 0 (viewReader (l .«frame_reader»)) rx bs) _ (consume-checks 0 (viewReader (l .«frame_reader»)) rx bs) (λ _. tt)
 
+short-end : (l : PPPoS) (rx bs : List ℕ) → length rx < l .«frame_reader» .len → 3 ≤ l .«frame_reader» .len → l .«frame_reader» .state ≡ reading.Data → getD rx 0 0x03 ≡ 0x03
+    → theirs.consumeLink (viewLink l) (0x7E ∷ bs) rx ≡ panics readerSlice
+unfolding consumeFrom
+short-end l [] bs h three e first = rw (e, le-ltb (l .«frame_reader» .len) 3 three) refl
+short-end l (x ∷ rx) bs h three e first =
+    rw (e, le-ltb (l .«frame_reader» .len) 3 three, ne-eqb (length (x ∷ rx)) 0 (λ z. omega arith), first, lt-ltb (length (x ∷ rx)) (l .«frame_reader» .len) h) refl
+
 -- ---- the first panic
 
 first-panic : {name password : List ℕ} {cs : List Call} {xs : List OurAnswer} {l : PPPoS} → History name password cs xs l → {r : Ran} → runOf name password cs ≡ returns r
@@ -140,6 +148,7 @@ at-panics =
       unfetched = unfetched;
       short-poll = short-poll;
       short-consume = short-consume;
+      short-end = short-end;
       first = first-panic;
     }
 

@@ -1,13 +1,14 @@
 -- Where the original panics: the place, its number in document 01's table, and what our refusal leaves.
 use mathlib.Core.Path.{_≡_}
 use mathlib.Core.Bool.{true, cond}
-use mathlib.Core.List.{List, []}
+use mathlib.Core.List.{List, [], _∷_}
 use Prim.Native.Nat.{ℕ, _+_, _≤_, _<_}
 use lib.Dec.{ltb}
-use lib.ListN.{length}
+use lib.ListN.{length, getD}
 use Rattle.framing.specs.Reader.{isComplete, fetched, freshReader, gotNumber, Receives}
 use Rattle.framing.specs.declared.frame_reader.FrameReader as reader
 use Rattle.framing.specs.declared.frame_reader.Got.{Got}
+use Rattle.framing.specs.declared.frame_reader.State.the-variants.{Data}
 use Rattle.framing.specs.declared.frame_reader.Reading.the-variants.{Crate}
 use Rattle.framing.specs.declared.refusal.Refusal.the-variants.{BufferShort, FrameShort}
 use Rattle.options.specs.Refusal.{numberOf}
@@ -120,6 +121,9 @@ pub record AtPanics : Type 0 where
   pub short-consume : (l : PPPoS) (rx bs : List ℕ) → length rx < l .«frame_reader» .len → {o : Outcome} {n : ℕ} {l′ : PPPoS} {rx′ : List ℕ} → Consumes l rx bs o n l′ rx′
       → (o ≡ Refused (Framing BufferShort)) × (n ≡ 0) × (l′ ≡ l) × (rx′ ≡ rx)
       × ((place : Place) → theirs.consumeLink (viewLink l) bs rx ≡ panics place → (place ≡ readerSlice) × (link.outcomeNumber o ≡ numberAt place))
+  -- there it does panic at a frame's end, with three bytes or more kept, if the buffer is empty or begins with 03
+  pub short-end : (l : PPPoS) (rx bs : List ℕ) → length rx < l .«frame_reader» .len → 3 ≤ l .«frame_reader» .len → l .«frame_reader» .state ≡ Data → getD rx 0 0x03 ≡ 0x03
+      → theirs.consumeLink (viewLink l) (0x7E ∷ bs) rx ≡ panics readerSlice
   -- the first panic of a run of calls is a poll's, and at no assert
   pub first : {name password : List ℕ} {cs : List Call} {xs : List OurAnswer} {l : PPPoS} → History name password cs xs l → {r : Ran} → runOf name password cs ≡ returns r
       → {c : Call} {a : OurAnswer} {l′ : PPPoS} → Called l c a l′ → {place : Place} → callOf (r .link) c ≡ panics place → Stopped l place c a l′
