@@ -1,6 +1,9 @@
 pub mod Calls
 pub mod Causes
 pub mod Faults
+pub mod FramingCalls
+pub mod FramingTable
 pub mod Polls
 pub mod Rows
 pub mod Table
+pub mod Units

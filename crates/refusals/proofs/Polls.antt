@@ -1,7 +1,7 @@
 -- The refusal table of poll: the first row that holds, and what is sent where none does.
 -- Assumes nothing.
 use mathlib.Core.Path.{_≡_, refl, ap, sym, _∙_}
-use mathlib.Core.Bool.{true, false, cond, true≢false, false≢true}
+use mathlib.Core.Bool.{true, false, cond, true≢false}
 use mathlib.Core.List.{List, []}
 use mathlib.Core.Logic.{_⊎_, inl, inr}
 use Prim.Native.Nat.{ℕ, _-_, _<_}
@@ -13,8 +13,7 @@ use Rattle.laws.proofs.Cases.{by-test, cond-by}
 use Rattle.framing.specs.Writer.{over}
 use Rattle.framing.specs.Reader.{isShort, isComplete, fetched}
 use Rattle.framing.specs.declared.frame_reader.FrameReader.{FrameReader}
-use Rattle.framing.specs.declared.frame_reader.State.{State}
-use Rattle.framing.specs.declared.frame_reader.State.the-variants.{Start, Address, Data, Complete}
+use Rattle.framing.specs.declared.frame_reader.State.the-variants.{Complete}
 use Rattle.options.specs.Refusal.{numberOf, outcomeNumber}
 use Rattle.phases.specs.Phases.{PppTurn, receivedOf, pollOf, turnOf}
 use Rattle.phases.specs.declared.ppp.Ppp.{Ppp}
@@ -32,14 +31,9 @@ use Rattle.link.specs.declared.pppos.PPPoSAction.{PPPoSAction}
 use Rattle.link.specs.declared.pppos.PPPoSAction.the-variants.{Received}
 use Rattle.link.proofs.Hearing.{sent-count, ip-received}
 use Rattle.refusals.proofs.Rows.{First}
+use Rattle.refusals.proofs.FramingCalls.{complete-is}
 use Rattle.refusals.proofs.Faults.{fault-number}
 use Rattle.refusals.proofs.Causes.{numberFrom, short-refused, length-refused, option-refused, reply-refused, Cause, fine, short, lengthShort, option, replyLong, cause}
-
-complete-is : (s : State) → isComplete s ≡ true → s ≡ Complete
-complete-is Start e = absurd (false≢true e)
-complete-is Address e = absurd (false≢true e)
-complete-is Data e = absurd (false≢true e)
-complete-is Complete e = refl
 
 refusal-some : (why : Refusal) → numberOf why ≡ 0 → ⊥
 refusal-some NotDead e = omega arith

@@ -8,7 +8,7 @@ use Prim.Native.Nat.{ℕ}
 use borrow.Author.Tests.{eqb-false, not-true}
 use lib.Dec.{eqb}
 use Rattle.laws.proofs.Cases.{both}
-use Rattle.refusals.specs.Table.{Row, Exactly}
+use Rattle.refusals.specs.Rows.{Row, Exactly}
 
 -- n is none of the numbers, nor 0
 abbrev pub fresh : ℕ → List ℕ → Bool

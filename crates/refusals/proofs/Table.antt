@@ -1,4 +1,4 @@
--- Document 01's refusal table holds of every call: each row is given exactly when it says, and leaves what it says.
+-- Document 01's refusal table holds of every call of the link and of the status lines: each row is given exactly when it says, and leaves what it says.
 -- Assumes nothing.
 use mathlib.Core.Path.{_≡_, refl}
 use mathlib.Core.List.{List, _++_}
@@ -13,7 +13,9 @@ use Rattle.framing.specs.declared.refusal.Outcome as framed
 use Rattle.link.specs.Refusal.{outcomeNumber}
 use Rattle.link.specs.Link.{Changes, Consumes, pollLink, Polls, actionNumber, Sends, transmitted}
 use Rattle.report.specs.Lines.{linesOf, Shows}
-use Rattle.refusals.specs.Table.{Exactly, newRows, openRows, consumeRows, sendRows, linesRows, pollRows}
+use Rattle.refusals.specs.Rows.{Exactly}
+use Rattle.refusals.specs.Framing.{consumeRows}
+use Rattle.refusals.specs.Table.{newRows, openRows, sendRows, linesRows, pollRows}
 use Rattle.link.specs.declared.refusal.Outcome.{Outcome}
 use Rattle.link.specs.declared.pppos.PPPoS.{PPPoS}
 use Rattle.link.specs.declared.pppos.PPPoSAction.{PPPoSAction}
@@ -36,7 +38,7 @@ pub record TableHolds : Type 0 where
   pub «open» : (l : PPPoS) {o : Outcome} {l′ : PPPoS} → Changes (openOf (l .ppp)) (l .«frame_reader») o l′
       → Exactly ⊥ (openRows l) (outcomeNumber o) l′
   pub consume : (l : PPPoS) (rx bs : List ℕ) {o : Outcome} {n : ℕ} {l′ : PPPoS} {rx′ : List ℕ} → Consumes l rx bs o n l′ rx′
-      → Exactly ⊥ (consumeRows l rx) (outcomeNumber o) (record { count = n; link = l′; rx = rx′ })
+      → Exactly ⊥ (consumeRows (l .«frame_reader» .len) l rx) (outcomeNumber o) (record { count = n; kept = l′; rx = rx′ })
   pub poll : (l : PPPoS) (rx : List ℕ) → PollHolds l rx
   pub send : (l : PPPoS) (pkt tx : List ℕ) {o : Outcome} {n : ℕ} {tx′ : List ℕ} → Sends l pkt tx o n tx′
       → Exactly ⊥ (sendRows l pkt tx) (outcomeNumber o) (record { count = n; bytes = tx′ })
@@ -56,7 +58,7 @@ exactly =
     record {
       new = λ name password k c. first-exactly _ _ (newRows name password k) (new-first name password k c) refl;
       «open» = λ l c. first-exactly _ _ (openRows l) (open-first l c) refl;
-      consume = λ l rx bs c. first-exactly _ _ (consumeRows l rx) (consume-first l rx bs c) refl;
+      consume = λ l rx bs c. first-exactly _ _ (consumeRows (l .«frame_reader» .len) l rx) (consume-first l rx bs c) refl;
       poll = poll-holds;
       send = λ l pkt tx c. first-exactly _ _ (sendRows l pkt tx) (send-first l pkt tx c) refl;
       lines = λ s buf c. first-exactly _ _ (linesRows (linesOf s) buf) (lines-first s buf c) refl;

@@ -1,17 +1,17 @@
--- Document 01's refusal table, from its words alone: for each call its rows in 01's order, when each is given and what it leaves.
+-- Document 01's refusal table for the link's calls, from its words alone: for each call its rows in 01's order, when each is given and what it leaves.
+-- A consume has the reader's row, with the link unchanged: Framing.antt. What the link refuses of a packet the calls below it refuse too, and leave all there:
+-- `turn-left` (phases/proofs/Phasing.antt), `proper-handle` and `proper-reject` (negotiation/proofs/Proper.antt).
 use mathlib.Core.Path.{_≡_}
 use mathlib.Core.Bool.{false, cond, _&&_}
-use mathlib.Core.List.{List, [], _∷_, _++_, map}
+use mathlib.Core.List.{List, [], _∷_}
 use mathlib.Core.Logic.{_⊎_}
 use Prim.Native.Nat.{ℕ, _+_, _-_, _≤_, _<_}
 use lib.Dec.{eqb}
 use lib.ListN.{length, take, drop, getD, replicate}
 use Rattle.laws.specs.Be.{beOf}
 use Rattle.laws.specs.Same.{same}
-use Rattle.framing.specs.Rfc1662.{fields, unit, frame}
-use Rattle.framing.specs.Writer.{join}
 use Rattle.framing.specs.declared.frame_reader.Reading.{Reading}
-use Rattle.framing.specs.declared.frame_reader.State.the-variants.{Start, Address, Complete}
+use Rattle.framing.specs.declared.frame_reader.State.the-variants.{Start, Complete}
 use Rattle.options.specs.declared.lcp.AuthType.the-variants.{None}
 use Rattle.negotiation.specs.declared.pap.PapState.the-variants as papState
 use Rattle.phases.specs.declared.ppp.Phase.the-variants.{Dead}
@@ -19,28 +19,8 @@ use Rattle.phases.specs.declared.ppp.Ppp.{Ppp}
 use Rattle.negotiation.specs.declared.states.State.{State}
 use Rattle.negotiation.specs.declared.states.State.the-variants.{Closed, Opened}
 use Rattle.link.specs.declared.pppos.PPPoS.{PPPoS}
-
--- ---- rows
-
--- a row, for a call that leaves an A
-pub record Row (A : Type 0) : Type 1 where
-  pub number : ℕ
-  pub when : Type 0
-  pub leaves : A → Type 0
-
-abbrev pub row : {A : Type 0} → ℕ → Type 0 → (A → Type 0) → Row A
-row n when leaves = record { number = n; when = when; leaves = leaves }
-
--- a call that gives n and leaves a gives the row's number exactly when the row holds and none before it does
-pub record Given {A : Type 0} (r : Row A) (before : Type 0) (n : ℕ) (a : A) : Type 0 where
-  pub only : n ≡ r .number → r .when × (before → ⊥)
-  pub always : r .when → (before → ⊥) → n ≡ r .number
-  pub left : n ≡ r .number → r .leaves a
-
--- so of each row; and it refuses nothing, which is 0, exactly when no row holds
-abbrev pub Exactly : {A : Type 0} → Type 0 → List (Row A) → ℕ → A → Type 0
-Exactly before [] n a = (n ≡ 0 → before → ⊥) × ((before → ⊥) → n ≡ 0)
-Exactly before (r ∷ rs) n a = Given r before n a × Exactly (before ⊎ r .when) rs n a
+use Rattle.refusals.specs.Rows.{Row, row}
+use Rattle.refusals.specs.Framing.{Wrote, encodeRows, movedOn}
 
 -- ---- new
 
@@ -80,43 +60,14 @@ newRows name password k = row 4 (120 < length name + length password) (λ l. l �
 abbrev pub openRows : PPPoS → List (Row PPPoS)
 openRows l = row 2 (l .ppp .phase ≡ Dead → ⊥) (λ l′. l′ ≡ l) ∷ []
 
--- ---- consume
-
--- what a consume leaves: its count, the link and the receive buffer
-pub record Took : Type 0 where
-  pub count : ℕ
-  pub link : PPPoS
-  pub rx : List ℕ
-
--- 3: lent buffer under the kept length | unchanged, count 0
-abbrev pub consumeRows : PPPoS → List ℕ → List (Row Took)
-consumeRows l rx =
-    row 3 (length rx < l .«frame_reader» .len) (λ t. (t .count ≡ 0) × (t .link ≡ l) × (t .rx ≡ rx)) ∷ []
-
 -- ---- send
 
--- what a send and the status lines leave: the count and the buffer that was lent
-pub record Wrote : Type 0 where
-  pub count : ℕ
-  pub bytes : List ℕ
-
--- 7E FF is one unit, each escaped or plain byte is one unit
-abbrev pub unitsOf : ℕ → List ℕ → List (List ℕ)
-unitsOf m p = (0x7E ∷ 0xFF ∷ []) ∷ (map (unit m) (drop 1 (fields p)) ++ ((0x7E ∷ []) ∷ []))
-
--- the most of these units, from the first on, that fit into buf stand at its front; what lies behind them stays
-pub record Fitted (us : List (List ℕ)) (buf buf′ : List ℕ) : Type 0 where
-  pub number : ℕ
-  pub fit : length (join (take number us)) ≤ length buf
-  pub most : number < length us → length buf < length (join (take (number + 1) us))
-  pub bytes : buf′ ≡ join (take number us) ++ drop (length (join (take number us))) buf
-
--- 1: the writer's units don't fit | the units that fitted; the count is 0
+-- the rows of encoding one packet, protocol 0021 before it, with `asyncmap_remote`
 abbrev pub sendRows : PPPoS → List ℕ → List ℕ → List (Row Wrote)
 sendRows l pkt tx =
     let m = l .ppp .lcp .proto .«asyncmap_remote» in
     let p : List ℕ = 0x00 ∷ 0x21 ∷ pkt in
-    row 1 (length tx < length (frame m p)) (λ w. (w .count ≡ 0) × Fitted (unitsOf m p) tx (w .bytes)) ∷ []
+    encodeRows m p tx
 
 -- ---- status lines
 
@@ -250,13 +201,9 @@ pub record Kept : Type 0 where
   pub tx : List ℕ
   pub rx : List ℕ
 
--- the reader moves on as if fetched
-abbrev pub movedOn : PPPoS → PPPoS
-movedOn l =
-    record {
-      «frame_reader» = record { state = Address; escape = l .«frame_reader» .escape; len = 0; reading = l .«frame_reader» .reading };
-      ppp = l .ppp;
-    }
+-- the link with its reader moved on
+abbrev pub linkMovedOn : PPPoS → PPPoS
+linkMovedOn l = record { «frame_reader» = movedOn (l .«frame_reader»); ppp = l .ppp }
 
 -- out is what the poll has to send, as the bytes of its frames: the table does not say what these are
 abbrev pub pollRows : PPPoS → List ℕ → List ℕ → List ℕ → List (Row Kept)
@@ -264,7 +211,7 @@ pollRows l tx rx out =
     let received : Type 0 = l .«frame_reader» .state ≡ Complete in
     let pkt = packetIn l rx in
     let unchanged : Kept → Type 0 = λ k. (k .link ≡ l) × (k .tx ≡ tx) × (k .rx ≡ rx) in
-    let dropped : Kept → Type 0 = λ k. (k .link ≡ movedOn l) × (k .tx ≡ tx) × (k .rx ≡ rx) in
+    let dropped : Kept → Type 0 = λ k. (k .link ≡ linkMovedOn l) × (k .tx ≡ tx) × (k .rx ≡ rx) in
     -- lent buffer under the kept length | unchanged
     row 3 (length rx < l .«frame_reader» .len) unchanged
     -- received packet under 2 bytes | frame dropped
