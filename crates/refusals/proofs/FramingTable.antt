@@ -54,7 +54,7 @@ pub exactly-framing : FramingHolds
 exactly-framing =
     record {
       start = λ w buf c. holds-of (writes-right (startUnits (w .asyncmap)) 0x3DE3 0x3DE3 w buf c) refl;
-      append = λ w bs buf c. holds-of (writes-right _ (w .crc) (fcs (w .crc) bs) w buf (rw units-map at c)) refl;
+      append = λ w bs buf c. rw (← units-map (w .asyncmap) bs) (holds-of (writes-right (units (w .asyncmap) bs) (w .crc) (fcs (w .crc) bs) w buf c) refl);
       finish = λ w buf c. holds-of (writes-right _ (w .crc) (w .crc) w buf (rw units-map at c)) refl;
       encode = λ m p buf c. holds-of (lays-right m p buf (c .number) (c .lays)) refl;
       «ppp_encode» = λ m p buf c. holds-of (lays-right m p buf (answer-number m p buf c) c) refl;
