@@ -10,22 +10,22 @@ use borrow.Author.Tests.{leb-true, leb-false}
 use lib.Dec.{leb}
 use lib.ListN.{length}
 use Rattle.laws.proofs.Cases.{by-test}
-use Rattle.framing.specs.Reader.{freshReader}
 use Rattle.framing.specs.declared.frame_reader.FrameReader.{FrameReader}
-use Rattle.framing.specs.declared.frame_reader.Reading.{Reading}
 use Rattle.negotiation.specs.Pap.{fitsCredentials}
 use Rattle.phases.specs.Phases.{isDead, openOf, newOf}
 use Rattle.phases.specs.declared.ppp.Phase.{Phase}
 use Rattle.phases.specs.declared.ppp.Phase.the-variants.{Dead, Establish, Auth, Network, Open}
+use Rattle.phases.specs.declared.ppp.Ppp.{Ppp}
 use Rattle.phases.specs.declared.ppp.Status.{Status}
 use Rattle.negotiation.proofs.Paps.{fits-sum}
 use Rattle.framing.specs.Refusal as framing
 use Rattle.framing.specs.declared.refusal.Outcome as framed
+use Rattle.options.specs.Refusal as negotiated
 use Rattle.link.specs.Refusal.{outcomeNumber}
-use Rattle.link.specs.Link.{linkOf, heldBy, Changes, Consumes, ipFrame, remoteMap, Sends}
+use Rattle.link.specs.Link.{linkOf, heldBy, Consumes, ipFrame, remoteMap, Sends}
 use Rattle.report.specs.Lines.{linesOf, Shows}
 use Rattle.refusals.specs.Framing.{consumeRows}
-use Rattle.refusals.specs.Table.{newRows, openRows, sendRows, linesRows}
+use Rattle.refusals.specs.Table.{emptyPpp, newRows, openRows, sendRows, linesRows}
 use Rattle.link.specs.declared.refusal.Outcome.{Outcome}
 use Rattle.link.specs.declared.pppos.PPPoS.{PPPoS}
 use Rattle.refusals.proofs.Rows.{First}
@@ -37,12 +37,13 @@ fits-not : (n m : ℕ) → fitsCredentials n m ≡ false → 120 < n + m
 fits-not n m e =
     by-test (leb n 120) (λ t. omega (arith, leb-true n 120 t, leb-false m (120 - n) (rw t at e))) (λ t. omega (arith, leb-false n 120 t))
 
-pub new-first : (name password : List ℕ) (k : Reading) {o : Outcome} {l : PPPoS} → Changes (newOf name password) (freshReader k) o l
-    → First (outcomeNumber o) l (newRows name password k)
-new-first name password k c =
+-- of the link, or of the record below it: what newOf comes to
+pub new-first : {A : Type 0} (name password : List ℕ) (empty : A) {n : ℕ} {a : A} → n ≡ negotiated.outcomeNumber (newOf name password .outcome)
+    → (newOf name password .ppp ≡ emptyPpp → a ≡ empty) → First n a (newRows name password empty)
+new-first name password empty number same =
     by-test (fitsCredentials (length name) (length password))
-    (λ e. inr ((λ h. omega (arith, fits-sum (length name) (length password) e)), c .number ∙ rw e refl))
-    (λ e. inl (c .number ∙ rw e refl, fits-not (length name) (length password) e, c .link ∙ rw e refl))
+    (λ e. inr ((λ h. omega (arith, fits-sum (length name) (length password) e)), number ∙ rw e refl))
+    (λ e. inl (number ∙ rw e refl, fits-not (length name) (length password) e, same (rw e refl)))
 
 -- ---- open
 
@@ -53,12 +54,13 @@ dead-is Auth e = absurd (false≢true e)
 dead-is Network e = absurd (false≢true e)
 dead-is Open e = absurd (false≢true e)
 
-pub open-first : (l : PPPoS) {o : Outcome} {l′ : PPPoS} → Changes (openOf (l .ppp)) (l .«frame_reader») o l′
-    → First (outcomeNumber o) l′ (openRows l)
-open-first l c =
-    by-test (isDead (l .ppp .phase))
-    (λ e. inr ((λ h. h (dead-is (l .ppp .phase) e)), c .number ∙ rw e refl))
-    (λ e. inl (c .number ∙ rw e refl, (λ d. true≢false (sym (ap isDead d) ∙ e)), c .link ∙ rw e refl))
+-- of the link, or of the record below it: what openOf comes to
+pub open-first : {A : Type 0} (p : Ppp) (l : A) {n : ℕ} {a : A} → n ≡ negotiated.outcomeNumber (openOf p .outcome)
+    → (openOf p .ppp ≡ p → a ≡ l) → First n a (openRows (p .phase) l)
+open-first p l number same =
+    by-test (isDead (p .phase))
+    (λ e. inr ((λ h. h (dead-is (p .phase) e)), number ∙ rw e refl))
+    (λ e. inl (number ∙ rw e refl, (λ d. true≢false (sym (ap isDead d) ∙ e)), same (rw e refl)))
 
 -- ---- consume
 

@@ -2,9 +2,9 @@
 -- Assumes nothing.
 use mathlib.Core.Path.{_≡_, refl, ap, sym, _∙_}
 use mathlib.Core.Bool.{Bool, true, false, _&&_, true≢false, false≢true}
-use mathlib.Core.List.{List}
+use mathlib.Core.List.{List, []}
 use mathlib.Core.Logic.{_⊎_, inl, inr}
-use Prim.Native.Nat.{ℕ, _+_, _-_, _≤_, _<_}
+use Prim.Native.Nat.{ℕ, _+_, _≤_, _<_}
 use native.Mathlib.Omega.{arith}
 use borrow.Author.Tests.{ltb-true, ltb-false, eqb-true, eqb-false, lt-ltb, le-ltb, ne-eqb}
 use lib.Dec.{eqb, ltb}
@@ -19,13 +19,14 @@ use Rattle.negotiation.specs.Automaton.{isClosed, isOpened, ackResends, Turn, u
 use Rattle.negotiation.specs.Pap.{isPapSent, PapTurn, papRequested, papActOf, papHandleOf}
 use Rattle.phases.specs.Phases.{lcpIn, ipv4cpIn, PppTurn, rejectOf, receivedOf}
 use Rattle.negotiation.specs.declared.option_fsm.OptionFsm.{OptionFsm}
+use Rattle.negotiation.specs.declared.pap.Pap.{Pap}
 use Rattle.phases.specs.declared.ppp.Ppp.{Ppp}
 use Rattle.options.specs.declared.refusal.Outcome.{Outcome}
 use Rattle.options.specs.declared.refusal.Outcome.the-variants.{Done, Refused}
-use Rattle.options.specs.declared.refusal.Refusal.the-variants.{ConfigureShort, EchoEmpty, ReplyLong as LongReply}
+use Rattle.options.specs.declared.refusal.Refusal.the-variants.{ConfigureShort, EchoEmpty, PapPast as LengthPast, ReplyLong as LongReply}
 use Rattle.negotiation.specs.declared.states.State.{State}
 use Rattle.negotiation.specs.declared.states.State.the-variants.{Closed, ReqSent, AckReceived, AckSent, Opened}
-use Rattle.refusals.specs.Table.{Which, lcp, ipv4cp, protocolAt, codeAt, lengthAt, dataAt, numberFor, stateFor, Heeded, Fault, Broken, LengthShort, OptionFault, ReplyLong}
+use Rattle.refusals.specs.Packets.{Which, lcp, ipv4cp, protocolAt, codeAt, lengthAt, dataAt, numberFor, stateFor, Heeded, Fault, Broken, PapPast, LengthShort, OptionFault, ReplyLong}
 use Rattle.refusals.proofs.Faults.{kindOf, request-refused, request-found, answer-refused, answer-found, fault-some, broken-some}
 
 -- ---- states
@@ -118,6 +119,28 @@ module _ (f : OptionFsm) where
   unfolding echoOf ignoredTurn
   echo-elsewhere q h = rw h refl
 
+-- ---- PAP
+
+-- refused past the packet, and nowhere else
+abbrev pub PapBy : Pap → List ℕ → Type 0
+PapBy p pkt =
+    (PapPast pkt × (papHandleOf p pkt ≡ record { outcome = Refused LengthPast; pap = p; sent = [] }))
+    ⊎ ((PapPast pkt → ⊥) × (papHandleOf p pkt .outcome ≡ Done))
+
+pub pap-by : (p : Pap) (pkt : List ℕ) → PapBy p pkt
+unfolding papHandleOf papActOf papRequested
+pap-by p pkt =
+    let s = isPapSent (p .state) in
+    let c = codeAt pkt in
+    let P : PapTurn → Type 0 = λ t. t .outcome ≡ Done in
+    by-le 6 (length pkt)
+    (λ h. by-le (lengthAt pkt) (length pkt)
+    (λ l. by-le (lengthAt pkt + 2) (length pkt)
+    (λ m. inr ((λ x. omega (arith, x .past)), rw (le-ltb _ _ h, le-ltb _ _ l, le-ltb _ _ m) (cond-all P (s && eqb c 2) refl (cond-all P (s && eqb c 3) refl refl))))
+    (λ m. inl (record { header = h; within = l; past = m }, rw (le-ltb _ _ h, le-ltb _ _ l, lt-ltb _ _ m) refl)))
+    (λ l. inr ((λ x. omega (arith, x .within)), rw (le-ltb _ _ h, lt-ltb _ _ l) refl)))
+    (λ h. inr ((λ x. omega (arith, x .header)), rw (lt-ltb _ _ h) refl))
+
 -- ---- a packet that is not ignored
 
 heeded : {w : Which} {c : ℕ} {pkt : List ℕ} → Heeded w c pkt → (p : Ppp)
@@ -153,11 +176,15 @@ module _ (p : Ppp) (pkt : List ℕ) where
   unfolding receivedOf
   short-refused h = rw (lt-ltb _ _ h) refl
 
-  pap-refused : protocolAt pkt ≡ 0xC023 → 6 ≤ length pkt → lengthAt pkt ≤ length pkt → length pkt < lengthAt pkt + 2 → numberFrom p pkt ≡ 6
-  unfolding receivedOf papHandleOf
-  pap-refused e h l m =
-      let two : 2 ≤ length pkt = omega arith in
-      rw (le-ltb _ _ two, e, le-ltb _ _ h, le-ltb _ _ l, lt-ltb _ _ m) refl
+  pap-refused : protocolAt pkt ≡ 0xC023 → PapPast pkt → numberFrom p pkt ≡ 6
+  unfolding receivedOf
+  pap-refused e h =
+      let two : 2 ≤ length pkt = omega (arith, h .header) in
+      rw (le-ltb _ _ two, e) (go (pap-by (p .pap) pkt))
+    where
+      go : PapBy (p .pap) pkt → outcomeNumber (papHandleOf (p .pap) pkt .outcome) ≡ 6
+      go (inl x) = rw (x .1) refl
+      go (inr x) = absurd (x .0 h)
 
   pub length-refused : LengthShort p pkt → numberFrom p pkt ≡ 6
   length-refused (LengthShort.configure w c k (inl e) n h) =
@@ -175,7 +202,7 @@ module _ (p : Ppp) (pkt : List ℕ) where
   length-refused (LengthShort.echo w k s h) =
       let f = fsmFor w p in
       rw (heeded k p, act-echo f _ (bodyOf pkt), echo-empty f (bodyOf pkt) (opened w s) (omega (arith, length-body k))) refl
-  length-refused (LengthShort.pap e h l m) = pap-refused e h l m
+  length-refused (LengthShort.pap e h) = pap-refused e h
 
   pub option-refused : {n : ℕ} → OptionFault p pkt n → numberFrom p pkt ≡ n
   option-refused (OptionFault.request w k n x) =
@@ -280,16 +307,11 @@ module _ (p : Ppp) (pkt : List ℕ) (w : Which) where
 
 module _ (p : Ppp) (pkt : List ℕ) where
   pap-cause : protocolAt pkt ≡ 0xC023 → Cause p pkt (outcomeNumber (papHandleOf (p .pap) pkt .outcome))
-  unfolding papHandleOf papActOf papRequested
-  pap-cause e =
-      let P : PapTurn → Type 0 = λ t. Cause p pkt (outcomeNumber (t .outcome)) in
-      let c = codeAt pkt in
-      let s = isPapSent (p .pap .state) in
-      cond-by P (ltb (length pkt) 6) (λ _. fine)
-      (λ h. cond-by P (ltb (length pkt) (lengthAt pkt)) (λ _. fine)
-      (λ l. cond-by P (ltb (length pkt) (lengthAt pkt + 2))
-      (λ m. lengthShort (LengthShort.pap e (ltb-false _ _ h) (ltb-false _ _ l) (ltb-true _ _ m)))
-      (λ _. cond-all P (s && eqb c 2) fine (cond-all P (s && eqb c 3) fine fine))))
+  pap-cause e = go (pap-by (p .pap) pkt)
+    where
+      go : PapBy (p .pap) pkt → Cause p pkt (outcomeNumber (papHandleOf (p .pap) pkt .outcome))
+      go (inl x) = rw (x .1) (lengthShort (LengthShort.pap e (x .0)))
+      go (inr x) = rw (x .1) fine
 
   pub cause : Cause p pkt (numberFrom p pkt)
   unfolding receivedOf rejectOf rejectTurn

@@ -27,7 +27,7 @@ use Rattle.options.specs.declared.refusal.Refusal.{Refusal}
 use Rattle.options.specs.declared.refusal.Refusal.the-variants.{OptionCut, OptionLong, OptionsMany}
 use Rattle.options.proofs.Replying.{listed-lower, listed-long, listed-higher, listed-many, listed-more}
 use Rattle.options.proofs.Walks.{walk-done, walk-cut, walk-opt}
-use Rattle.refusals.specs.Table.{Which, lcp, ipv4cp, verdictFor, sizeBack, Cut, Whole, Fault, Broken}
+use Rattle.refusals.specs.Packets.{Which, lcp, ipv4cp, verdictFor, sizeBack, Cut, Whole, Fault, Broken}
 
 -- ---- one option
 

@@ -1,8 +1,11 @@
+pub mod Below
+pub mod BelowTable
 pub mod Calls
 pub mod Causes
 pub mod Faults
 pub mod FramingCalls
 pub mod FramingTable
+pub mod Packets
 pub mod Polls
 pub mod Rows
 pub mod Table

@@ -16,15 +16,13 @@ use Rattle.framing.specs.declared.frame_reader.FrameReader.{FrameReader}
 use Rattle.framing.specs.declared.frame_reader.State.the-variants.{Complete}
 use Rattle.options.specs.Refusal.{numberOf, outcomeNumber}
 use Rattle.phases.specs.Phases.{PppTurn, receivedOf, pollOf, turnOf}
-use Rattle.phases.specs.declared.ppp.Ppp.{Ppp}
 use Rattle.options.specs.declared.refusal.Outcome.{Outcome}
 use Rattle.options.specs.declared.refusal.Outcome.the-variants.{Done, Refused}
 use Rattle.options.specs.declared.refusal.Refusal.{Refusal}
-use Rattle.options.specs.declared.refusal.Refusal.the-variants.{NotDead, CredentialsLong, PacketShort, ConfigureShort, EchoEmpty, PapPast, OptionCut, OptionLong, OptionsMany, ReplyLong as LongReply}
 use Rattle.phases.proofs.Phasing.{turn-refused, turn-done}
 use Rattle.link.specs.Frames.{frames}
 use Rattle.link.specs.Link.{heldBy, linkOf, Poll, declined, written, answered, isIp, packetPoll, pollLink, Polls, actionNumber, transmitted}
-use Rattle.refusals.specs.Table.{packetIn, OptionFault, Kept, pollRows}
+use Rattle.refusals.specs.Table.{packetIn, Kept, linkMovedOn, pollRows}
 use Rattle.link.specs.declared.refusal.Refusal.the-variants.{Negotiation}
 use Rattle.link.specs.declared.pppos.PPPoS.{PPPoS}
 use Rattle.link.specs.declared.pppos.PPPoSAction.{PPPoSAction}
@@ -32,24 +30,8 @@ use Rattle.link.specs.declared.pppos.PPPoSAction.the-variants.{Received}
 use Rattle.link.proofs.Hearing.{sent-count, ip-received}
 use Rattle.refusals.proofs.Rows.{First}
 use Rattle.refusals.proofs.FramingCalls.{complete-is}
-use Rattle.refusals.proofs.Faults.{fault-number}
-use Rattle.refusals.proofs.Causes.{numberFrom, short-refused, length-refused, option-refused, reply-refused, Cause, fine, short, lengthShort, option, replyLong, cause}
-
-refusal-some : (why : Refusal) → numberOf why ≡ 0 → ⊥
-refusal-some NotDead e = omega arith
-refusal-some CredentialsLong e = omega arith
-refusal-some PacketShort e = omega arith
-refusal-some ConfigureShort e = omega arith
-refusal-some EchoEmpty e = omega arith
-refusal-some PapPast e = omega arith
-refusal-some (OptionCut at) e = omega arith
-refusal-some OptionLong e = omega arith
-refusal-some OptionsMany e = omega arith
-refusal-some LongReply e = omega arith
-
-option-number : {p : Ppp} {pkt : List ℕ} {n : ℕ} → OptionFault p pkt n → (n ≡ 7) ⊎ ((n ≡ 8) ⊎ (n ≡ 9))
-option-number (OptionFault.request w k n x) = fault-number x
-option-number (OptionFault.answer w c k e n x) = inl refl
+use Rattle.refusals.proofs.Causes.{numberFrom}
+use Rattle.refusals.proofs.Packets.{refusal-some, packet-fine, packet-refused}
 
 -- ---- what a poll comes to
 
@@ -93,76 +75,18 @@ module _ (l : PPPoS) (tx rx : List ℕ) where
   abbrev pkt : List ℕ
   pkt = packetIn l rx
 
-  abbrev Dropped : Poll → Type 0
-  Dropped q = (q .link ≡ linkOf (fetched (l .«frame_reader»)) (l .ppp)) × (q .tx ≡ tx) × (q .rx ≡ rx)
+  abbrev Dropped : Kept → Type 0
+  Dropped k = (k .link ≡ linkMovedOn l) × (k .tx ≡ tx) × (k .rx ≡ rx)
 
   module _ (out : List ℕ) (q : Poll) (held : length rx < l .«frame_reader» .len → ⊥) where
     -- a packet that is not refused
     first-last : (Got → numberFrom (l .ppp) pkt ≡ 0) → Last out q → First (actionNumber (q .action)) (keptOf q) (pollRows l tx rx out)
     unfolding Last
-    first-last z last =
-        inr (
-          held,
-          inr (
-            (λ h. omega (arith, short-refused (l .ppp) pkt (h .1), z (h .0))),
-            inr (
-              (λ h. omega (arith, length-refused (l .ppp) pkt (h .1), z (h .0))),
-              inr (
-                (λ h. omega (arith, option-refused (l .ppp) pkt (h .1), z (h .0))),
-                inr (
-                  (λ h. omega (arith, option-refused (l .ppp) pkt (h .1), z (h .0))),
-                  inr (
-                    (λ h. omega (arith, option-refused (l .ppp) pkt (h .1), z (h .0))),
-                    inr (
-                      (λ h. omega (arith, reply-refused (l .ppp) pkt (h .1), z (h .0))),
-                      last,
-                    ),
-                  ),
-                ),
-              ),
-            ),
-          ),
-        )
-
-    -- behind the rows 3, 5 and 6, for a number above them
-    past-length : (m : ℕ) → numberFrom (l .ppp) pkt ≡ m → 6 < m → First m (keptOf q) (drop 3 (pollRows l tx rx out))
-        → First m (keptOf q) (pollRows l tx rx out)
-    past-length m e k f =
-        inr (
-          held,
-          inr (
-            (λ h. omega (arith, short-refused (l .ppp) pkt (h .1))),
-            inr ((λ h. omega (arith, length-refused (l .ppp) pkt (h .1))), f),
-          ),
-        )
-
-    -- the option's fault has another number
-    not-option : (m n : ℕ) → numberFrom (l .ppp) pkt ≡ m → (n ≡ m → ⊥) → Got × OptionFault (l .ppp) pkt n → ⊥
-    not-option m n e k h = k (sym (option-refused (l .ppp) pkt (h .1)) ∙ e)
+    first-last z last = inr (held, packet-fine (λ c. Got × c) Dropped (l .ppp) pkt (drop 7 (pollRows l tx rx out)) (keptOf q) (λ c h. (h .1, z (h .0))) last)
 
     -- one that is
-    first-option : (m : ℕ) → Got → numberFrom (l .ppp) pkt ≡ m → Dropped q → OptionFault (l .ppp) pkt m → (m ≡ 7) ⊎ ((m ≡ 8) ⊎ (m ≡ 9))
-        → First m (keptOf q) (pollRows l tx rx out)
-    first-option m g e d x (inl n) = past-length m e (omega arith) (inl (n, (g, rw n at x), d))
-    first-option m g e d x (inr (inl n)) =
-        past-length m e (omega arith) (inr (not-option m 7 e (λ k. omega arith), inl (n, (g, rw n at x), d)))
-    first-option m g e d x (inr (inr n)) =
-        past-length m e (omega arith)
-        (inr (not-option m 7 e (λ k. omega arith), inr (not-option m 8 e (λ k. omega arith), inl (n, (g, rw n at x), d))))
-
-    first-refused : (m : ℕ) → Got → numberFrom (l .ppp) pkt ≡ m → (m ≡ 0 → ⊥) → Dropped q → Cause (l .ppp) pkt m
-        → First m (keptOf q) (pollRows l tx rx out)
-    first-refused m g e z d fine = absurd (z refl)
-    first-refused m g e z d (short h) = inr (held, inl (refl, (g, h), d))
-    first-refused m g e z d (lengthShort h) =
-        inr (held, inr ((λ h. omega (arith, short-refused (l .ppp) pkt (h .1))), inl (refl, (g, h), d)))
-    first-refused m g e z d (option x) = first-option _ g e d x (option-number x)
-    first-refused m g e z d (replyLong h) =
-        past-length 10 e (omega arith)
-        (inr (
-          not-option 10 7 e (λ k. omega arith),
-          inr (not-option 10 8 e (λ k. omega arith), inr (not-option 10 9 e (λ k. omega arith), inl (refl, (g, h), d))),
-        ))
+    first-refused : (m : ℕ) → Got → numberFrom (l .ppp) pkt ≡ m → (m ≡ 0 → ⊥) → Dropped (keptOf q) → First m (keptOf q) (pollRows l tx rx out)
+    first-refused m g e z d = inr (held, packet-refused (λ c. Got × c) Dropped (l .ppp) pkt (drop 7 (pollRows l tx rx out)) (keptOf q) (λ c h. h .1) (λ c x. (g, x)) d m e z)
 
   module _ (r : FrameReader) (t : PppTurn) where
     answered-done : t .outcome ≡ Done → answered l r t tx rx ≡ written l r t tx rx
@@ -195,7 +119,7 @@ module _ (l : PPPoS) (tx rx : List ℕ) where
         (record {
           first =
               first-refused (frames (t .sent)) (declined (Negotiation why) (linkOf r (l .ppp)) tx rx) held (numberOf why) g n (refusal-some why)
-              (refl, refl, refl) (rw n at (cause (l .ppp) pkt));
+              (refl, refl, refl);
           sent = λ z. absurd (refusal-some why z);
         })
 

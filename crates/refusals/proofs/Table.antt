@@ -1,6 +1,6 @@
 -- Document 01's refusal table holds of every call of the link and of the status lines: each row is given exactly when it says, and leaves what it says.
 -- Assumes nothing.
-use mathlib.Core.Path.{_≡_, refl}
+use mathlib.Core.Path.{_≡_, refl, ap, _∙_}
 use mathlib.Core.List.{List, _++_}
 use Prim.Native.Nat.{ℕ}
 use lib.ListN.{length, drop}
@@ -11,11 +11,11 @@ use Rattle.phases.specs.declared.ppp.Status.{Status}
 use Rattle.framing.specs.Refusal as framing
 use Rattle.framing.specs.declared.refusal.Outcome as framed
 use Rattle.link.specs.Refusal.{outcomeNumber}
-use Rattle.link.specs.Link.{Changes, Consumes, pollLink, Polls, actionNumber, Sends, transmitted}
+use Rattle.link.specs.Link.{linkOf, Changes, Consumes, pollLink, Polls, actionNumber, Sends, transmitted}
 use Rattle.report.specs.Lines.{linesOf, Shows}
 use Rattle.refusals.specs.Rows.{Exactly}
 use Rattle.refusals.specs.Framing.{consumeRows}
-use Rattle.refusals.specs.Table.{newRows, openRows, sendRows, linesRows, pollRows}
+use Rattle.refusals.specs.Table.{emptyLink, newRows, openRows, sendRows, linesRows, pollRows}
 use Rattle.link.specs.declared.refusal.Outcome.{Outcome}
 use Rattle.link.specs.declared.pppos.PPPoS.{PPPoS}
 use Rattle.link.specs.declared.pppos.PPPoSAction.{PPPoSAction}
@@ -34,9 +34,9 @@ pub record PollHolds (l : PPPoS) (rx : List ℕ) : Type 0 where
 -- each call as its contract has it
 pub record TableHolds : Type 0 where
   pub new : (name password : List ℕ) (k : Reading) {o : Outcome} {l : PPPoS} → Changes (newOf name password) (freshReader k) o l
-      → Exactly ⊥ (newRows name password k) (outcomeNumber o) l
+      → Exactly ⊥ (newRows name password (emptyLink k)) (outcomeNumber o) l
   pub «open» : (l : PPPoS) {o : Outcome} {l′ : PPPoS} → Changes (openOf (l .ppp)) (l .«frame_reader») o l′
-      → Exactly ⊥ (openRows l) (outcomeNumber o) l′
+      → Exactly ⊥ (openRows (l .ppp .phase) l) (outcomeNumber o) l′
   pub consume : (l : PPPoS) (rx bs : List ℕ) {o : Outcome} {n : ℕ} {l′ : PPPoS} {rx′ : List ℕ} → Consumes l rx bs o n l′ rx′
       → Exactly ⊥ (consumeRows (l .«frame_reader» .len) l rx) (outcomeNumber o) (record { count = n; kept = l′; rx = rx′ })
   pub poll : (l : PPPoS) (rx : List ℕ) → PollHolds l rx
@@ -56,8 +56,8 @@ poll-holds l rx =
 pub exactly : TableHolds
 exactly =
     record {
-      new = λ name password k c. first-exactly _ _ (newRows name password k) (new-first name password k c) refl;
-      «open» = λ l c. first-exactly _ _ (openRows l) (open-first l c) refl;
+      new = λ name password k c. first-exactly _ _ (newRows name password (emptyLink k)) (new-first name password (emptyLink k) (c .number) (λ e. c .link ∙ ap (linkOf (freshReader k)) e)) refl;
+      «open» = λ l c. first-exactly _ _ (openRows (l .ppp .phase) l) (open-first (l .ppp) l (c .number) (λ e. c .link ∙ ap (linkOf (l .«frame_reader»)) e)) refl;
       consume = λ l rx bs c. first-exactly _ _ (consumeRows (l .«frame_reader» .len) l rx) (consume-first l rx bs c) refl;
       poll = poll-holds;
       send = λ l pkt tx c. first-exactly _ _ (sendRows l pkt tx) (send-first l pkt tx c) refl;

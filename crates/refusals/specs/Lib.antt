@@ -1,3 +1,4 @@
 pub mod Rows
 pub mod Framing
+pub mod Packets
 pub mod Table
