@@ -62,6 +62,16 @@ pub record Writes (us : List (List ℕ)) (full crc : ℕ) (w : FrameWriter) (buf
   pub writer : w′ ≡ cond (lent w buf) (written (write us buf (w .len) .done) (write us buf (w .len) .at) full crc (w .asyncmap)) w
   pub bytes : buf′ ≡ cond (lent w buf) (write us buf (w .len) .bytes) buf
 
+-- the writer's three calls: `start` sets the check value to 3DE3 even where a unit does not fit, `append` advances it only where all do, `finish` never changes it
+abbrev pub Starts : FrameWriter → List ℕ → Outcome → FrameWriter → List ℕ → Type 0
+Starts w = Writes (startUnits (w .asyncmap)) 0x3DE3 0x3DE3 w
+
+abbrev pub Appends : List ℕ → FrameWriter → List ℕ → Outcome → FrameWriter → List ℕ → Type 0
+Appends bs w = Writes (units (w .asyncmap) bs) (w .crc) (fcs (w .crc) bs) w
+
+abbrev pub Finishes : FrameWriter → List ℕ → Outcome → FrameWriter → List ℕ → Type 0
+Finishes w = Writes (finishUnits (w .asyncmap) (w .crc)) (w .crc) (w .crc) w
+
 -- units as one run of bytes
 unfoldable pub join : List (List ℕ) → List ℕ
 join [] = []

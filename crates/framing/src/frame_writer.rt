@@ -4,9 +4,9 @@ ghost use mathlib.Core.List.{[], _∷_};
 ghost use mathlib.Core.Bool.{cond};
 ghost use Prim.Native.Nat.{_/_, _%_, _≤_};
 ghost use lib.ListN.{length};
-ghost use Rattle.framing.specs.Rfc1662.{escaped, unit, fcs, checkBytes};
+ghost use Rattle.framing.specs.Rfc1662.{escaped, unit, checkBytes};
 ghost use Rattle.framing.specs.Refusal.{outcomeNumber};
-ghost use Rattle.framing.specs.Writer.{units, startUnits, finishUnits, Ran, freshWriter, written, Writes};
+ghost use Rattle.framing.specs.Writer.{units, startUnits, finishUnits, Ran, freshWriter, written, Starts, Appends, Finishes};
 use crate::crc::crc16;
 use crate::refusal::Outcome;
 use crate::refusal::Refusal;
@@ -201,7 +201,7 @@ impl FrameWriter {
     }
 
     pub fn start(self, buf: &mut [u8]) -> Wrote
-        ensures { λ r. ⌜ Writes (startUnits (self .asyncmap)) 0x3DE3 0x3DE3 self (now (buf .entry)) (r .outcome) (r .writer) (now (buf .exit)) ⌝ }
+        ensures { λ r. ⌜ Starts self (now (buf .entry)) (r .outcome) (r .writer) (now (buf .exit)) ⌝ }
     {
         let at = self.len;
         if buf.len() < at {
@@ -212,7 +212,7 @@ impl FrameWriter {
     }
 
     pub fn append(self, buf: &mut [u8], src: &[u8]) -> Wrote
-        ensures { λ r. ⌜ Writes (units (self .asyncmap) (now (src .entry))) (self .crc) (fcs (self .crc) (now (src .entry))) self (now (buf .entry)) (r .outcome) (r .writer) (now (buf .exit)) ⌝ }
+        ensures { λ r. ⌜ Appends (now (src .entry)) self (now (buf .entry)) (r .outcome) (r .writer) (now (buf .exit)) ⌝ }
     {
         let at = self.len;
         if buf.len() < at {
@@ -224,7 +224,7 @@ impl FrameWriter {
     }
 
     pub fn finish(self, buf: &mut [u8]) -> Wrote
-        ensures { λ r. ⌜ Writes (finishUnits (self .asyncmap) (self .crc)) (self .crc) (self .crc) self (now (buf .entry)) (r .outcome) (r .writer) (now (buf .exit)) ⌝ }
+        ensures { λ r. ⌜ Finishes self (now (buf .entry)) (r .outcome) (r .writer) (now (buf .exit)) ⌝ }
     {
         let at = self.len;
         if buf.len() < at {

@@ -13,7 +13,7 @@ use lib.ListN.{length}
 use Rattle.laws.specs.Each.{Bytes}
 use Rattle.laws.proofs.Cases.{by-le, by-test}
 use Rattle.framing.specs.Rfc1662.{escaped, unit, fcs, checkBytes}
-use Rattle.framing.specs.Writer.{Out, write, Ran, units, startUnits, finishUnits, Writes}
+use Rattle.framing.specs.Writer.{Out, write, Ran, units, startUnits, finishUnits, Writes, Starts, Appends, Finishes}
 use Rattle.framing.specs.declared.refusal.Outcome.{Outcome}
 use Rattle.framing.specs.declared.frame_writer.FrameWriter as ours
 use Rattle.framing.proofs.Run.{run-next, run-stop}
@@ -151,17 +151,17 @@ same-write {us} {full} {crc} {w} {w′} {buf} h c e =
     }
 
 module _ (w : ours.FrameWriter) (buf : List ℕ) (room : w .len ≤ length buf) {o : Outcome} {w′ : ours.FrameWriter} {buf′ : List ℕ} where
-  pub same-start : Writes (startUnits (w .asyncmap)) 0x3DE3 0x3DE3 w buf o w′ buf′ → SameWrite (start (viewWriter w buf)) o w′ buf′
+  pub same-start : Starts w buf o w′ buf′ → SameWrite (start (viewWriter w buf)) o w′ buf′
   same-start c = same-write room c (start-is (viewWriter w buf) ∙ go (write (startUnits (w .asyncmap)) buf (w .len)))
     where
       go : (x : Out) → outIn (withCrc (viewWriter w buf) 0x3DE3) x ≡ outIn (withCrc (viewWriter w buf) (cond (x .done) 0x3DE3 0x3DE3)) x
       go x = by-test (x .done) (λ t. rw t refl) (λ t. rw t refl)
 
-  pub same-append : (bs : List ℕ) → Bytes bs → Writes (units (w .asyncmap) bs) (w .crc) (fcs (w .crc) bs) w buf o w′ buf′
+  pub same-append : (bs : List ℕ) → Bytes bs → Appends bs w buf o w′ buf′
       → SameWrite (append (viewWriter w buf) bs) o w′ buf′
   same-append bs h c = same-write room c (append-is (viewWriter w buf) bs h)
 
-  pub same-finish : Writes (finishUnits (w .asyncmap) (w .crc)) (w .crc) (w .crc) w buf o w′ buf′ → SameWrite (finish (viewWriter w buf)) o w′ buf′
+  pub same-finish : Finishes w buf o w′ buf′ → SameWrite (finish (viewWriter w buf)) o w′ buf′
   same-finish c = same-write room c (finish-is (viewWriter w buf) ∙ go (write (finishUnits (w .asyncmap) (w .crc)) buf (w .len)))
     where
       go : (x : Out) → outIn (viewWriter w buf) x ≡ outIn (withCrc (viewWriter w buf) (cond (x .done) (w .crc) (w .crc))) x

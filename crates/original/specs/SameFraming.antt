@@ -7,7 +7,7 @@ use lib.ListN.{length}
 use Rattle.laws.specs.Each.{Bytes}
 use Rattle.framing.specs.Refusal as framing
 use Rattle.framing.specs.Rfc1662.{fcs}
-use Rattle.framing.specs.Writer.{freshWriter, units, startUnits, finishUnits, Writes}
+use Rattle.framing.specs.Writer.{freshWriter, Starts, Appends, Finishes}
 use Rattle.framing.specs.Reader.{held, freshReader, gotNumber, Receives}
 use Rattle.framing.specs.Reader as reading
 use Rattle.framing.specs.declared.frame_reader.FrameReader as reader
@@ -38,11 +38,11 @@ pub record SameFraming : Type 0 where
   pub check-value : (seed : ℕ) (bs : List ℕ) → Bytes bs → crc16 seed bs ≡ fcs seed bs
   pub new-writer : (m : ℕ) (buf : List ℕ) → viewWriter (freshWriter m) buf ≡ newWithAsyncmap buf m
   pub start-frame : (w : writer.FrameWriter) (buf : List ℕ) → w .len ≤ length buf → {o : framed.Outcome} {w′ : writer.FrameWriter} {buf′ : List ℕ}
-      → Writes (startUnits (w .asyncmap)) 0x3DE3 0x3DE3 w buf o w′ buf′ → SameWrite (start (viewWriter w buf)) o w′ buf′
+      → Starts w buf o w′ buf′ → SameWrite (start (viewWriter w buf)) o w′ buf′
   pub append-bytes : (w : writer.FrameWriter) (buf : List ℕ) → w .len ≤ length buf → {o : framed.Outcome} {w′ : writer.FrameWriter} {buf′ : List ℕ} (bs : List ℕ) → Bytes bs
-      → Writes (units (w .asyncmap) bs) (w .crc) (fcs (w .crc) bs) w buf o w′ buf′ → SameWrite (append (viewWriter w buf) bs) o w′ buf′
+      → Appends bs w buf o w′ buf′ → SameWrite (append (viewWriter w buf) bs) o w′ buf′
   pub finish-frame : (w : writer.FrameWriter) (buf : List ℕ) → w .len ≤ length buf → {o : framed.Outcome} {w′ : writer.FrameWriter} {buf′ : List ℕ}
-      → Writes (finishUnits (w .asyncmap) (w .crc)) (w .crc) (w .crc) w buf o w′ buf′ → SameWrite (finish (viewWriter w buf)) o w′ buf′
+      → Finishes w buf o w′ buf′ → SameWrite (finish (viewWriter w buf)) o w′ buf′
   pub new-reader : viewReader (freshReader Crate) ≡ newReader
   pub consume-bytes : (r : reader.FrameReader) (buf bs : List ℕ) → r .reading ≡ Crate → r .len ≤ length buf → length buf < 2 ^ 64 → Bytes buf → Bytes bs
       → {o : framed.Outcome} {n : ℕ} {r′ : reader.FrameReader} {buf′ : List ℕ} → reading.Consumes (held r buf) bs o n r′ buf′

@@ -6,7 +6,7 @@ use mathlib.Core.List.{List}
 use Prim.Native.Nat.{ℕ}
 use Rattle.framing.specs.Rfc1662.{fcs}
 use Rattle.framing.specs.Refusal.{outcomeNumber}
-use Rattle.framing.specs.Writer.{units, startUnits, finishUnits, Writes, Lays, Encodes}
+use Rattle.framing.specs.Writer.{units, startUnits, Starts, Appends, Finishes, Lays, Encodes}
 use Rattle.framing.specs.Reader.{held, Consumes, gotNumber, Receives}
 use Rattle.framing.specs.declared.refusal.Outcome.{Outcome}
 use Rattle.framing.specs.declared.frame_writer.FrameWriter.{FrameWriter}
@@ -29,13 +29,13 @@ WriterHolds c w buf o w′ buf′ = Holds (writerRows c w buf) (allWritten c w b
 -- each call as its contract has it
 pub record FramingHolds : Type 0 where
   pub start : (w : FrameWriter) (buf : List ℕ) {o : Outcome} {w′ : FrameWriter} {buf′ : List ℕ}
-      → Writes (startUnits (w .asyncmap)) 0x3DE3 0x3DE3 w buf o w′ buf′
+      → Starts w buf o w′ buf′
       → WriterHolds (starting w) w buf o w′ buf′
   pub append : (w : FrameWriter) (bs buf : List ℕ) {o : Outcome} {w′ : FrameWriter} {buf′ : List ℕ}
-      → Writes (units (w .asyncmap) bs) (w .crc) (fcs (w .crc) bs) w buf o w′ buf′
+      → Appends bs w buf o w′ buf′
       → WriterHolds (appending bs w) w buf o w′ buf′
   pub finish : (w : FrameWriter) (buf : List ℕ) {o : Outcome} {w′ : FrameWriter} {buf′ : List ℕ}
-      → Writes (finishUnits (w .asyncmap) (w .crc)) (w .crc) (w .crc) w buf o w′ buf′
+      → Finishes w buf o w′ buf′
       → WriterHolds (finishing w) w buf o w′ buf′
   -- `encode` and `encode_parts`, and the C function, whose answer is its count
   pub encode : (m : ℕ) (p buf : List ℕ) {o : Outcome} {n : ℕ} {buf′ : List ℕ} → Encodes m p buf o n buf′
