@@ -4,8 +4,7 @@ use mathlib.Core.Path.{_≡_, sym, ap, _∙_}
 use mathlib.Core.Bool.{Bool}
 use Prim.Native.Nat.{ℕ, _*_, _/_, _%_, _^_, _<_}
 use lib.Dec.{eqb, eqb→eq}
-use lib.Bits.{bitXor, xor-lt}
-use native.Mathlib.Omega.{arith}
+use lib.Bits.{bitXor}
 use Rattle.framing.specs.Rfc1662.{fcsBits, fcsByte}
 use Rattle.laws.proofs.Xor.{xor-assoc}
 use Rattle.laws.proofs.Below.{below}
@@ -30,9 +29,6 @@ mixed-high : (s f : ℕ) → mixed s f ≡ bitXor (s / 2 ^ 8) (mixed 0 f)
 mixed-high s f =
     ap (λ (x : ℕ). bitXor x (f / 2 ^ 4)) (xor-assoc (s / 2 ^ 8) (f * 2 ^ 8 % 2 ^ 16) (f * 2 ^ 3 % 2 ^ 16))
     ∙ xor-assoc (s / 2 ^ 8) (bitXor (f * 2 ^ 8 % 2 ^ 16) (f * 2 ^ 3 % 2 ^ 16)) (f / 2 ^ 4)
-
-pub fold-lt : (s b : ℕ) → b < 256 → fold (bitXor (s % 256) b) < 2 ^ 8
-fold-lt s b h = let e : ℕ = bitXor (s % 256) b in xor-lt 8 e (e * 16 % 256) (fcs-index-lt s b h) (omega arith)
 
 pub formula : (s b : ℕ) → b < 256 → mixed s (fold (bitXor (s % 256) b)) ≡ fcsByte s b
 formula s b h =

@@ -12,7 +12,7 @@ use Rattle.framing.specs.Reader.{Held, held, step, full, fetched, packetOf}
 use Rattle.framing.specs.Heard.{fetchedIn}
 use Rattle.framing.specs.declared.frame_reader.FrameReader.{FrameReader}
 use Rattle.phases.specs.Phases.{PppTurn, pollOf, turnOf}
-use Rattle.phases.specs.Moves.{Calm}
+use Rattle.phases.specs.Sound.{Calm}
 use Rattle.phases.specs.declared.ppp.Ppp.{Ppp}
 use Rattle.options.specs.declared.refusal.Outcome.the-variants as negotiation
 use Rattle.link.specs.Refusal.{outcomeNumber}

@@ -17,9 +17,10 @@ use Rattle.framing.specs.Arrives.{Idle, Arrives}
 use Rattle.framing.proofs.Arrives.{idle-empty, arrives}
 use Rattle.framing.proofs.Reader.{Kept, step-kept}
 use Rattle.phases.specs.Phases.{PppTurn, pppTurned, turnOf}
-use Rattle.phases.specs.Moves.{Self, Small, AtMostOne, Calm, Moves}
+use Rattle.phases.specs.Sound.{Calm}
+use Rattle.meeting.specs.Moves.{Self, Small, AtMostOne, Moves}
 use Rattle.phases.specs.declared.ppp.Ppp.{Ppp}
-use Rattle.phases.proofs.Moves.{open-calm}
+use Rattle.meeting.proofs.Moves.{open-calm}
 use Rattle.link.specs.Frames.{everyByte, frames}
 use Rattle.link.proofs.Sending.{frames-append}
 use Rattle.meeting.specs.Calls.{End}

@@ -1,3 +1,4 @@
+pub mod Moves
 pub mod Bytes
 pub mod Diamond
 pub mod Ways

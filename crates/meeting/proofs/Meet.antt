@@ -6,7 +6,7 @@ use mathlib.Core.List.{List, [], _∷_}
 use Prim.Native.Nat.{ℕ, _≤_, _<_}
 use native.Mathlib.Omega.{arith}
 use lib.ListN.{length}
-use Rattle.phases.proofs.Moves.{hears}
+use Rattle.meeting.proofs.Moves.{hears}
 use Rattle.link.proofs.Reached.{dead-closed}
 use Rattle.meeting.specs.Calls.{End, Net, flip, begun, oneUnlessEmpty, steps}
 use Rattle.meeting.specs.Statement.{Side, TwoEndsMeet}

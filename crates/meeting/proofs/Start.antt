@@ -8,10 +8,10 @@ use native.Mathlib.Omega.{arith}
 use lib.ListN.{length}
 use Rattle.framing.proofs.Arrives.{idle-empty}
 use Rattle.phases.specs.Phases.{PppTurn, openOf, pollOf}
-use Rattle.phases.specs.Moves as moves
-use Rattle.phases.specs.Moves.{Self, selfOf, hello}
+use Rattle.meeting.specs.Moves as moves
+use Rattle.meeting.specs.Moves.{Self, selfOf, hello}
 use Rattle.negotiation.specs.declared.states.State.the-variants.{Closed}
-use Rattle.phases.proofs.Moves.{begins}
+use Rattle.meeting.proofs.Moves.{begins}
 use Rattle.link.specs.Frames.{frames}
 use Rattle.link.specs.Link.{linkOf, outcomeOf, openLink}
 use Rattle.link.specs.declared.refusal.Outcome.the-variants.{Done}

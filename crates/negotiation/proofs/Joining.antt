@@ -18,10 +18,6 @@ add-replies ps l h =
     let k : length (map pktOf ps) < 3 = rw m h in
     rw (rw m at (seam 3 (map pktOf ps) (pktOf l) (pktOf []) k), length-append, map-append) refl
 
-pub count-replies : (ps : List (List ℕ)) → repliesOf ps .count ≡ length ps
-unfolding repliesOf
-count-replies ps = refl
-
 -- at most one packet behind at most two
 pub join-replies : (ps qs : List (List ℕ)) → length ps ≤ 2 → length qs ≤ 1 → joined (repliesOf ps) (repliesOf qs) ≡ repliesOf (ps ++ qs)
 unfolding repliesOf

@@ -229,6 +229,3 @@ rejectTurn f pkt = cond (ltb 122 (length pkt)) (refusedTurn f ReplyLong) (turned
 -- whatever the state was
 unfoldable pub openedFsm : OptionFsm → Turn
 openedFsm f = requested (withState f ReqSent) []
-
-abbrev pub closedFsm : OptionFsm → OptionFsm
-closedFsm f = withState f Closed

@@ -3,11 +3,9 @@
 use Prim.Native.Nat.{ℕ, _<_}
 use mathlib.Core.Path.{_≡_, refl, ap, sym, _∙_}
 use mathlib.Core.Bool.{Bool, true, false}
-use mathlib.Core.List.{List}
 use lib.ListN.{length}
 use Rattle.laws.specs.Be.{beBytes, beOf}
-use Rattle.laws.specs.Each.{Bytes}
-use Rattle.laws.proofs.Be.{be-round, be-less, be-again, length-be}
+use Rattle.laws.proofs.Be.{be-round, length-be}
 use Rattle.options.specs.declared.ipv4cp.IpOption.{IpOption}
 use Rattle.options.specs.declared.ipv4cp.Ipv4cp.{Ipv4cp}
 use Rattle.options.specs.declared.proto.Proto.{Proto}
@@ -18,7 +16,7 @@ use Rattle.papers.specs.Rfc1332.{Address, IpAddress, PrimaryDns, Seconda
 use Rattle.options.specs.Ipv4cp.{ownIp, ipNacked, judgeIpv4cp, withPeer}
 use Rattle.options.specs.Proto.{ownNacked}
 use Rattle.papers.proofs.Octets.{four-octets}
-use Rattle.papers.proofs.Layouts1661.{optionAs, Field, laid-field}
+use Rattle.papers.proofs.Layouts1661.{Field, laid-field}
 
 -- ---- what is written
 
@@ -28,12 +26,6 @@ laid-address t o k h =
     (record { small = h; type = refl; value = four-octets (o .address) h })
 
 -- ---- what is read
-
--- an option of four bytes carries the number that they say
-pub says-address : (t : ℕ) (d : List ℕ) → length d ≡ 4 → Bytes d → Address t (optionAs t d) (beOf d)
-says-address t d e b =
-    let h : beOf d < 0x100000000 = rw e at (be-less d b) in
-    record { small = h; type = refl; value = sym (rw e at (be-again 0 d b)) ∙ four-octets (beOf d) h }
 
 module _ {t a : ℕ} {o : Option} (x : Address t o a) where
   -- its data by our own fields

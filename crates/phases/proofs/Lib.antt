@@ -1,4 +1,3 @@
-pub mod Moves
 pub mod OneAnswer
 pub mod Phasing
 pub mod Resting

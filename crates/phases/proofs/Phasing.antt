@@ -1,8 +1,8 @@
 -- Laws of the link's phases: how much a call sends, and what a refusal leaves.
 -- Assumes nothing.
 use mathlib.Core.Path.{_≡_, refl, ap, sym, _∙_}
-use mathlib.Core.Bool.{true, false, true≢false, false≢true}
-use mathlib.Core.List.{List, [], _++_, append-nil}
+use mathlib.Core.Bool.{true}
+use mathlib.Core.List.{List, _++_, append-nil}
 use Prim.Native.Nat.{ℕ}
 use lib.Dec.{ltb, eqb}
 use lib.ListN.{length}
@@ -12,10 +12,6 @@ use Rattle.options.specs.declared.refusal.Outcome.the-variants.{Done, Refused}
 use Rattle.options.specs.declared.lcp.AuthType.{AuthType}
 use Rattle.options.specs.declared.lcp.AuthType.the-variants.{None}
 use Rattle.options.specs.declared.lcp.AuthType.the-variants as auth
-use Rattle.options.specs.declared.lcp.Lcp as lcp
-use Rattle.options.specs.declared.ipv4cp.Ipv4cp as ipv4cp
-use Rattle.options.specs.declared.proto.Proto.{Proto}
-use Rattle.options.specs.declared.proto.Proto.the-variants as proto
 use Rattle.negotiation.specs.declared.replies.Replies.{Replies}
 use Rattle.options.specs.Refusal.{isDone}
 use Rattle.options.specs.Wire.{protocolIn}
@@ -23,14 +19,13 @@ use Rattle.negotiation.specs.Replies.{joined}
 use Rattle.negotiation.specs.Automaton.{isClosed, isOpened}
 use Rattle.negotiation.specs.Pap.{isPapOpened}
 use Rattle.negotiation.proofs.Joining.{join-replies}
-use Rattle.options.proofs.Fair.{isLcp}
 use Rattle.negotiation.proofs.Sends.{Sends, sends-none, sends-both, handle-sends, reject-sends, opened-sends, pap-sends, pap-opened-sends}
 use Rattle.phases.specs.declared.ppp.Phase.{Phase}
 use Rattle.phases.specs.declared.ppp.Phase.the-variants.{Dead, Establish, Auth, Network, Open}
 use Rattle.phases.specs.declared.ppp.Ppp.{Ppp}
 use Rattle.phases.specs.declared.ppp.Turned.{Turned}
 use Rattle.phases.specs.declared.phase.Stepped.{Stepped}
-use Rattle.phases.specs.Phases.{lcpIn, lcpOr, ipv4cpIn, ipv4cpOr, PppTurn, Step, pppRefused, rejectOf, receivedOf, byAuth, establishOf, authOf, networkOf, byPhase, phaseOf, restsOf, pollOf, turnOf, isDead, openOf, turnedAs, steppedAs, Turns}
+use Rattle.phases.specs.Phases.{lcpIn, ipv4cpIn, PppTurn, Step, pppRefused, rejectOf, receivedOf, byAuth, establishOf, authOf, networkOf, byPhase, phaseOf, restsOf, pollOf, turnOf, turnedAs, steppedAs, Turns}
 use Rattle.phases.proofs.Resting.{rests-still}
 
 -- ---- a turn, by its outcome
@@ -95,19 +90,6 @@ turn-sends p pkt =
     cond-all (λ (x : PppTurn). Sends 3 (x .sent)) (isDone (t .outcome))
     (sends-both (t .sent) (phaseOf (t .ppp) .sent) (received-sends p pkt) (phase-sends (t .ppp))) (sends-none 3)
 
--- ---- a refusal
-
-abbrev pub Left : Ppp → PppTurn → Type 0
-Left p t = isDone (t .outcome) ≡ false → (t .ppp ≡ p) × (t .sent ≡ []) × (t .echoed ≡ false)
-
--- a refused packet leaves the record, sends nothing and marks nothing
-pub turn-left : (p : Ppp) (pkt : List ℕ) → Left p (turnOf p pkt)
-unfolding turnOf
-turn-left p pkt = cond-all (Left p) (isDone (receivedOf p pkt .outcome)) (λ e. absurd (true≢false e)) (λ e. (refl, refl, refl))
-
-pub open-left : (p : Ppp) → Left p (openOf p)
-open-left p = cond-all (Left p) (isDead (p .phase)) (λ e. absurd (true≢false e)) (λ e. (refl, refl, refl))
-
 -- ---- a turn as the code puts it together
 
 module _ (p : Ppp) (pkt : List ℕ) {t : Turned} (et : t ≡ turnedAs (receivedOf p pkt)) where
@@ -128,13 +110,3 @@ module _ (p : Ppp) (pkt : List ℕ) {t : Turned} (et : t ≡ turnedAs (receivedO
       let e : s ≡ steppedAs (phaseOf (receivedOf p pkt .ppp)) = es ∙ ap (λ (x : Turned). steppedAs (phaseOf (x .ppp))) et in
       rw (turn-done p pkt (sym (ap (λ (x : Turned). x .outcome) et) ∙ eo), er, e, et)
       (record { outcome = refl; echoed = refl; ppp = refl; replies = join-replies (receivedOf p pkt .sent) _ (received-sends p pkt .few) (phase-sends _ .few) })
-
--- ---- the record's parts: the other arm is never taken
-
-pub lcp-whole : (p : Proto) (old : lcp.Lcp) → isLcp p ≡ true → proto.Lcp (lcpOr p old) ≡ p
-lcp-whole (proto.Lcp p) old e = refl
-lcp-whole (proto.Ipv4cp p) old e = absurd (false≢true e)
-
-pub ipv4cp-whole : (p : Proto) (old : ipv4cp.Ipv4cp) → isLcp p ≡ false → proto.Ipv4cp (ipv4cpOr p old) ≡ p
-ipv4cp-whole (proto.Lcp p) old e = absurd (true≢false e)
-ipv4cp-whole (proto.Ipv4cp p) old e = refl

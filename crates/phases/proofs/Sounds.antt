@@ -29,8 +29,7 @@ use Rattle.options.specs.Wire.{protocolIn, lengthField}
 use Rattle.negotiation.specs.Automaton.{afterAcked, afterNotAcked, afterReq, afterAck, afterNack, afterTerm, isClosed, isOpened, Turn, requested, termAckOf, ackOf, reqOf, nackOf, ignoredTurn, echoOf, actOf, handleOf, rejectTurn, openedFsm}
 use Rattle.negotiation.specs.Pap.{fitsCredentials, isPapSent, isPapOpened, PapTurn, papRequested, papActOf, papHandleOf, openedPap}
 use Rattle.phases.specs.Phases.{freshWith, withPhase, withOpening, withLcp, lcpIn, ipv4cpIn, PppTurn, rejectOf, receivedOf, Step, stepTo, opensLcp, opensIpv4cp, opensPap, closesIpv4cp, closesPap, byAuth, establishOf, authOf, networkOf, diesOf, settled, phaseOf, isPapClosed, restsOf, pollOf, turnOf, isDead, pppTurned, openOf, newOf}
-use Rattle.phases.specs.Moves.{Calm}
-use Rattle.phases.specs.Sound.{isEstablish, Sound}
+use Rattle.phases.specs.Sound.{isEstablish, Sound, Calm}
 use Rattle.negotiation.proofs.Proper.{proper-handle}
 use Rattle.negotiation.proofs.StateTable.{answer, is-closed, req-goes, ack-goes, nack-goes}
 use Rattle.phases.proofs.Resting.{rests-still}

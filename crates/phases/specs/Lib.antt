@@ -1,3 +1,2 @@
 pub mod Phases
-pub mod Moves
 pub mod Sound

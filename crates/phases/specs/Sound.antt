@@ -1,10 +1,11 @@
 -- What holds of every record that calls reach from a fresh one.
 use mathlib.Core.Path.{_≡_}
 use mathlib.Core.Bool.{Bool, true, false, _&&_, _||_}
+use mathlib.Core.List.{[]}
 use mathlib.Core.Logic.{_⊎_}
 use Rattle.negotiation.specs.Automaton.{isClosed, isOpened}
 use Rattle.negotiation.specs.Pap.{isPapSent}
-use Rattle.phases.specs.Phases.{isDead}
+use Rattle.phases.specs.Phases.{isDead, pppTurned, pollOf}
 use Rattle.negotiation.specs.declared.states.State.the-variants.{Closed}
 use Rattle.negotiation.specs.declared.pap.PapState.the-variants as papState
 use Rattle.phases.specs.declared.ppp.Phase.{Phase}
@@ -32,3 +33,7 @@ pub record Sound (p : Ppp) : Type 0 where
   pub network : p .phase ≡ Network → (isClosed (p .ipv4cp .state) ≡ false) × (isOpened (p .ipv4cp .state) ≡ false)
   -- in Network and in Open, PAP waits for nothing
   pub past : (p .phase ≡ Network) ⊎ (p .phase ≡ Open) → isPapSent (p .pap .state) ≡ false
+
+-- a phase step alone changes nothing and sends nothing
+abbrev pub Calm : Ppp → Type 0
+Calm p = pollOf p ≡ pppTurned p []

@@ -23,7 +23,7 @@ use Rattle.framing.specs.declared.refusal.Outcome as framed
 use Rattle.options.specs.Refusal as negotiated
 use Rattle.link.specs.Refusal.{outcomeNumber}
 use Rattle.link.specs.Link.{linkOf, heldBy, Consumes, ipFrame, remoteMap, Sends}
-use Rattle.report.specs.Lines.{linesOf, Shows}
+use Rattle.status_lines.specs.Lines.{linesOf, Shows}
 use Rattle.refusals.specs.Framing.{consumeRows}
 use Rattle.refusals.specs.Table.{emptyPpp, newRows, openRows, sendRows, linesRows}
 use Rattle.link.specs.declared.refusal.Outcome.{Outcome}

@@ -12,7 +12,7 @@ use Rattle.framing.specs.Refusal as framing
 use Rattle.framing.specs.declared.refusal.Outcome as framed
 use Rattle.link.specs.Refusal.{outcomeNumber}
 use Rattle.link.specs.Link.{linkOf, Changes, Consumes, pollLink, Polls, actionNumber, Sends, transmitted}
-use Rattle.report.specs.Lines.{linesOf, Shows}
+use Rattle.status_lines.specs.Lines.{linesOf, Shows}
 use Rattle.refusals.specs.Rows.{Exactly}
 use Rattle.refusals.specs.Framing.{consumeRows}
 use Rattle.refusals.specs.Table.{emptyLink, newRows, openRows, sendRows, linesRows, pollRows}

@@ -20,7 +20,7 @@ use link::pppos::PPPoSAction;
 use link::pppos::ip_packet;
 use link::refusal::Outcome;
 use link::refusal::Refusal;
-use report::status::lines;
+use status_lines::status::lines;
 
 fn number(r: Refusal) -> usize {
     link::refusal::number(r) as usize

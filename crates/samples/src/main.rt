@@ -4,7 +4,7 @@ use feeding::feed::start;
 use framing::frame_reader::Reading;
 use libc::STDOUT_FILENO;
 use link::pppos::PPPoS;
-use report::status::lines;
+use status_lines::status::lines;
 
 fn played(bytes: &[u8]) -> PPPoS {
     let mut tx = [0u8; 795];

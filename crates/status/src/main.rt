@@ -5,7 +5,7 @@ use framing::frame_reader::Reading;
 use libc::STDIN_FILENO;
 use libc::STDOUT_FILENO;
 use link::pppos::PPPoS;
-use report::status::lines;
+use status_lines::status::lines;
 
 struct Step {
     link: PPPoS,

@@ -8,7 +8,9 @@ use Rattle.framing.specs.declared.frame_reader.State.{State}
 use Rattle.framing.specs.declared.frame_reader.State.the-variants.{Start, Address, Data, Complete}
 use Rattle.framing.specs.declared.frame_reader.Reading.{Reading}
 use Rattle.framing.specs.declared.frame_reader.Reading.the-variants.{Crate, Standard}
-use Rattle.options.specs.Refusal.{outcomeNumber}
+use Rattle.options.specs.Refusal.{numberOf, valuesOf}
+use Rattle.options.specs.declared.refusal.Outcome.{Outcome}
+use Rattle.options.specs.declared.refusal.Outcome.the-variants.{Done, Refused}
 use Rattle.negotiation.specs.Pap.{papWith, papBytes}
 use Rattle.negotiation.specs.Automaton.{requestBytes}
 use Rattle.phases.specs.Phases.{freshPpp, ipv4cpIn, pollOf, turnOf, openOf, PppTurn}
@@ -93,6 +95,15 @@ k10 = 0xC0 ∷ 0x21 ∷ 0x01 ∷ 0x07 ∷ 0x00 ∷ 0x10 ∷ 0x02 ∷ 0x06 ∷ 0x
 abbrev pub k11 : List ℕ
 k11 = 0xC0 ∷ 0x21 ∷ 0x01 ∷ 0x07 ∷ 0x00 ∷ 0x06 ∷ 0x02 ∷ 0x01 ∷ []
 
+-- the same behind a first option, in a request and in a Nack
+abbrev pub cutBehind : ℕ → List ℕ
+cutBehind code = 0xC0 ∷ 0x21 ∷ code ∷ 0x07 ∷ 0x00 ∷ 0x0B ∷ 0x02 ∷ 0x06 ∷ 0x01 ∷ 0x02 ∷ 0x03 ∷ 0x04 ∷ 0x02 ∷ []
+
+-- an outcome's number and the values beside it
+abbrev pub told : Outcome → List ℕ
+told Done = 0 ∷ []
+told (Refused why) = numberOf why ∷ valuesOf why
+
 abbrev pub table : List Row
 table =
     -- K1, K2: the check value
@@ -118,8 +129,10 @@ table =
     (0x80 ∷ 0x21 ∷ 0x01 ∷ 0x02 ∷ 0x00 ∷ 0x16 ∷ 0x03 ∷ 0x06 ∷ 0x00 ∷ 0x00 ∷ 0x00 ∷ 0x00 ∷ 0x81 ∷ 0x06 ∷ 0x00 ∷ 0x00 ∷ 0x00 ∷ 0x00 ∷ 0x83 ∷ 0x06 ∷ 0x00 ∷ 0x00 ∷ 0x00 ∷ 0x00 ∷ [])
     -- K10: a Rej, still ReqSent, remote map 0
     ∷ row (answers (turnOf asked k10)) (1 ∷ 0 ∷ 0xC0 ∷ 0x21 ∷ 0x04 ∷ 0x07 ∷ 0x00 ∷ 0x0A ∷ 0x05 ∷ 0x06 ∷ 0x01 ∷ 0x02 ∷ 0x03 ∷ 0x04 ∷ [])
-    -- K11: the option list 02 01 is refusal 7
-    ∷ row (outcomeNumber (turnOf asked k11 .outcome) ∷ []) (7 ∷ [])
+    -- K11: the option list 02 01 is refusal 7, with the option's offset
+    ∷ row (told (turnOf asked k11 .outcome)) (7 ∷ 0 ∷ [])
+    ∷ row (told (turnOf asked (cutBehind 1) .outcome)) (7 ∷ 6 ∷ [])
+    ∷ row (told (turnOf asked (cutBehind 3) .outcome)) (7 ∷ 6 ∷ [])
     -- K12: data 7D 7D 41: crate 61, standard 5D 41
     ∷ row (shown (reads Crate 9 k12)) (2 ∷ 0x61 ∷ [])
     ∷ row (shown (reads Standard 9 k12)) (2 ∷ 0x5D ∷ 0x41 ∷ [])

@@ -1,5 +1,5 @@
 use native.Mathlib.Omega.{arith}
-use Rattle.report.proofs.Writing.{shown-within}
+use Rattle.status_lines.proofs.Writing.{shown-within}
 use lib.ListN.{length-take}
 use borrow.Author.Needs.{needs}
 use Rattle.status.proofs.show.Statement.{statement}

@@ -1,0 +1,128 @@
+-- Laws of the status lines: texts one behind the other in a buffer, and how long each can be.
+-- Assumes nothing.
+use mathlib.Core.Path.{_≡_, ap, _∙_}
+use mathlib.Core.Bool.{Bool, true, false}
+use mathlib.Core.List.{List, _++_}
+use Prim.Native.Nat.{ℕ, _+_, _/_, _%_, _≤_, _<_}
+use native.Mathlib.Omega.{arith}
+use borrow.Author.Tests.{leb-true, le-leb, lt-leb}
+use lib.Dec.{ltb, leb, lit≤}
+use lib.ListN.{length, take, replicate, length-append, length-replicate}
+use Rattle.laws.proofs.Cases.{by-test, cond-by, cond-all}
+use Rattle.laws.proofs.Stores.{sets-append, sets-front, take-sets}
+use Rattle.phases.specs.Phases.{shownIf}
+use Rattle.phases.specs.declared.ppp.Phase.{Phase}
+use Rattle.phases.specs.declared.ppp.Phase.the-variants.{Dead, Establish, Auth, Network, Open}
+use Rattle.options.specs.declared.ipv4cp.Shown.{Shown}
+use Rattle.options.specs.declared.ipv4cp.Shown.the-variants.{Absent, At}
+use Rattle.phases.specs.declared.ppp.Status.{Status}
+use Rattle.status_lines.specs.Lines.{phaseName, upName, decimal, dotted, addressText, addressLine, addressKey, peerKey, dns1Key, dns2Key, headOf, linesOf, Puts, Shows}
+use Rattle.framing.specs.declared.refusal.Refusal.the-variants.{BufferFull}
+use Rattle.framing.specs.declared.refusal.Outcome.{Outcome}
+use Rattle.framing.specs.declared.refusal.Outcome.the-variants.{Done, Refused}
+
+-- a text behind another
+pub joined : {x y buf mid buf′ : List ℕ} {at i end : ℕ} → Puts x buf at i mid → Puts y mid i end buf′ → Puts (x ++ y) buf at end buf′
+joined {x} {y} {buf} {mid} {buf′} {at} p q = record { ends = rw length-append (omega arith); bytes = cc (sets-append x y buf at) }
+
+-- ---- lengths
+
+decimal-short : (n : ℕ) → length (decimal n) ≤ 3
+unfolding decimal
+decimal-short n =
+    cond-all (λ (l : List ℕ). length l ≤ 3) (ltb n 10)
+    (lit≤ tt)
+    (cond-all (λ (l : List ℕ). length l ≤ 3) (ltb n 100) (lit≤ tt) (lit≤ tt))
+
+dotted-short : (a : ℕ) → length (dotted a) ≤ 15
+unfolding dotted
+dotted-short a =
+    simp length-append
+    (omega (arith, decimal-short (a / 16777216 % 256), decimal-short (a / 65536 % 256), decimal-short (a / 256 % 256), decimal-short (a % 256)))
+
+pub address-short : (a : Shown) → length (addressText a) ≤ 15
+address-short Absent = lit≤ tt
+address-short (At a) = dotted-short a
+
+pub phase-short : (f : Phase) → length (phaseName f) ≤ 9
+phase-short Dead = lit≤ tt
+phase-short Establish = lit≤ tt
+phase-short Auth = lit≤ tt
+phase-short Network = lit≤ tt
+phase-short Open = lit≤ tt
+
+pub up-short : (b : Bool) → length (upName b) ≤ 4
+up-short true = lit≤ tt
+up-short false = lit≤ tt
+
+module _ (key : List ℕ) (up : Bool) (a : Shown) where
+  pub line-short : length (addressLine key up a) ≤ length key + 16
+  unfolding addressLine
+  line-short = simp length-append (omega (arith, address-short (shownIf up a)))
+
+  -- "none"
+  down-short : up ≡ false → length (addressLine key up a) ≤ length key + 5
+  unfolding addressLine
+  down-short e = rw e (simp length-append (omega arith))
+
+head-length : (s : Status) → length (headOf s) ≡ length (phaseName (s .phase)) + (length (upName (s .up)) + 13)
+unfolding headOf
+head-length s = simp length-append (omega arith)
+
+pub head-short : (s : Status) → length (headOf s) ≤ 26
+head-short s = omega (arith, head-length s, phase-short (s .phase), up-short (s .up))
+
+-- what stands before the last line: "up" is shorter than "down", under which no address is shown
+pub last-room : (s : Status)
+    → length (headOf s)
+    + (length (addressLine addressKey (s .up) (s .address))
+    + (length (addressLine peerKey (s .up) (s .«peer_address»)) + length (addressLine dns1Key (s .up) (s .«dns_server_1»))))
+    ≤ 90
+last-room s =
+    let h = head-length s in
+    let p = phase-short (s .phase) in
+    let u = up-short (s .up) in
+    by-test (s .up)
+    (λ e.
+    omega (
+      arith,
+      ap (λ (b : Bool). length (upName b)) e,
+      line-short addressKey (s .up) (s .address),
+      line-short peerKey (s .up) (s .«peer_address»),
+      line-short dns1Key (s .up) (s .«dns_server_1»),
+    ))
+    (λ e.
+    omega (
+      arith,
+      down-short addressKey (s .up) (s .address) e,
+      down-short peerKey (s .up) (s .«peer_address») e,
+      down-short dns1Key (s .up) (s .«dns_server_1») e,
+    ))
+
+-- 111 bytes hold all lines
+pub lines-short : (s : Status) → length (linesOf s) ≤ 111
+unfolding linesOf
+lines-short s = simp length-append (omega (arith, last-room s, line-short dns2Key (s .up) (s .«dns_server_2»)))
+
+-- ---- what `lines` promises
+
+-- what an array of 111 bytes holds of them
+pub lines-front : {text : List ℕ} {end : ℕ} (s : Status) → Puts (linesOf s) (replicate 111 0) 0 end text → take end text ≡ linesOf s
+lines-front s p = rw (p .ends, p .bytes, take-sets (linesOf s) (replicate 111 0) 0 (rw length-replicate (omega (arith, lines-short s))))
+
+pub lines-refused : (s : Status) (buf : List ℕ) → length buf < length (linesOf s) → Shows s buf (Refused BufferFull) 0 buf
+lines-refused s buf h =
+    let e = lt-leb (length (linesOf s)) (length buf) h in
+    record { number = rw e; count = rw e; bytes = rw e }
+
+pub lines-shown : {text buf buf′ : List ℕ} {n end : ℕ} (s : Status) → text ≡ linesOf s → n ≡ length (linesOf s) → n ≤ length buf
+    → Puts text buf 0 end buf′ → Shows s buf Done n buf′
+lines-shown {buf = buf} s f m h p =
+    let k : length (linesOf s) ≤ length buf = omega arith in
+    let e = le-leb (length (linesOf s)) (length buf) k in
+    record { number = rw e; count = rw e m; bytes = rw e (rw f at (p .bytes) ∙ sets-front (linesOf s) buf k) }
+
+pub shown-within : {s : Status} {buf buf′ : List ℕ} {o : Outcome} {n : ℕ} → Shows s buf o n buf′ → n ≤ length buf
+shown-within {s} {buf} p =
+    rw (p .count)
+    (cond-by (λ (m : ℕ). m ≤ length buf) (leb (length (linesOf s)) (length buf)) (leb-true (length (linesOf s)) (length buf)) (λ _. omega arith))
