@@ -11,7 +11,7 @@ use Rattle.laws.specs.Each.{Each}
 use Rattle.laws.proofs.Be.{be-round}
 use Rattle.framing.specs.Rfc1662.{frame}
 use Rattle.framing.proofs.Unstuffing.{frame-narrow}
-use Rattle.meeting.specs.Moves.{Self, Small, heard}
+use Rattle.meeting.proofs.Says.{Self, Small, heard}
 use Rattle.phases.specs.declared.ppp.Ppp.{Ppp}
 use Rattle.link.specs.Frames.{everyByte, frames}
 use Rattle.meeting.specs.Calls.{End, Net, Run, start, atA, atB, steps}

@@ -18,7 +18,7 @@ use Rattle.framing.proofs.Arrives.{idle-empty, arrives}
 use Rattle.framing.proofs.Reader.{Kept, step-kept}
 use Rattle.phases.specs.Phases.{PppTurn, pppTurned, turnOf}
 use Rattle.phases.specs.Sound.{Calm}
-use Rattle.meeting.specs.Moves.{Self, Small, AtMostOne, Moves}
+use Rattle.meeting.proofs.Says.{Self, Small, AtMostOne, Moves}
 use Rattle.phases.specs.declared.ppp.Ppp.{Ppp}
 use Rattle.meeting.proofs.Moves.{open-calm}
 use Rattle.link.specs.Frames.{everyByte, frames}

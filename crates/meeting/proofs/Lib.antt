@@ -1,3 +1,4 @@
+pub mod Says
 pub mod Moves
 pub mod Bytes
 pub mod Diamond

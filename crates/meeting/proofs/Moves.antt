@@ -14,7 +14,7 @@ use Rattle.options.specs.Reply.{listedOf, stepOf, replyOf}
 use Rattle.negotiation.specs.Automaton.{nextId, requested, ackOf, reqWith, reqOf, nackWith, nackOf, termAckOf, ignoredTurn, echoOf, actOf, handleOf, rejectTurn, openedFsm}
 use Rattle.phases.specs.Phases.{pppTurned, rejectOf, receivedOf, establishOf, authOf, networkOf, phaseOf, openOf, pollOf, turnOf}
 use Rattle.phases.specs.Sound.{Calm}
-use Rattle.meeting.specs.Moves.{Self, selfOf, offer, heard, lcpPacket, hello, ask, grant, deny, lcpAt, ipAt, end, begun, answered, net, Small, Moves}
+use Rattle.meeting.proofs.Says.{Self, selfOf, offer, heard, lcpPacket, hello, ask, grant, deny, lcpAt, ipAt, end, begun, answered, net, Small, Moves}
 use Rattle.options.specs.declared.lcp.AuthType.the-variants.{None}
 use Rattle.negotiation.specs.declared.states.State.the-variants.{Closed, ReqSent, AckReceived, AckSent, Opened}
 use Rattle.phases.specs.declared.ppp.Phase.the-variants.{Dead, Establish, Network, Open}

@@ -8,8 +8,8 @@ use native.Mathlib.Omega.{arith}
 use lib.ListN.{length}
 use Rattle.framing.proofs.Arrives.{idle-empty}
 use Rattle.phases.specs.Phases.{PppTurn, openOf, pollOf}
-use Rattle.meeting.specs.Moves as moves
-use Rattle.meeting.specs.Moves.{Self, selfOf, hello}
+use Rattle.meeting.proofs.Says as moves
+use Rattle.meeting.proofs.Says.{Self, selfOf, hello}
 use Rattle.negotiation.specs.declared.states.State.the-variants.{Closed}
 use Rattle.meeting.proofs.Moves.{begins}
 use Rattle.link.specs.Frames.{frames}

@@ -5,6 +5,7 @@ use mathlib.Core.Path.{_≡_}
 use mathlib.Core.Bool.{Bool, true, cond, not, _&&_}
 use mathlib.Core.List.{List, [], _∷_}
 use borrow.Author.Tests.{eqb-true}
+use native.Mathlib.Omega.{arith}
 use lib.Dec.{eqb}
 use lib.ListN.{length}
 use Rattle.laws.specs.Be.{beOf}
@@ -12,7 +13,7 @@ use Rattle.laws.specs.Each.{Each, Bytes}
 use Rattle.laws.specs.Same.{same}
 use Rattle.laws.proofs.Be.{be-less}
 use Rattle.laws.proofs.Cases.{cond-by, cond-all, both}
-use Rattle.laws.proofs.Each.{each-right}
+use Rattle.laws.proofs.Each.{each-left, each-right}
 use Rattle.options.specs.declared.ipv4cp.IpOption.{IpOption}
 use Rattle.options.specs.declared.ipv4cp.Ipv4cpJudged.{Ipv4cpJudged}
 use Rattle.options.specs.declared.lcp.Lcp.{Lcp}
@@ -20,18 +21,22 @@ use Rattle.options.specs.declared.lcp.LcpJudged.{LcpJudged}
 use Rattle.options.specs.declared.proto.Proto.{Proto}
 use Rattle.options.specs.declared.proto.Proto.the-variants.{Lcp as OfLcp, Ipv4cp as OfIpv4cp}
 use Rattle.papers.specs.Rfc1661.{Option, Options, none, more}
-use Rattle.options.specs.Ipv4cp.{ipNacked}
+use Rattle.options.specs.Lcp.{freshLcp}
+use Rattle.options.specs.Ipv4cp.{freshIpv4cp, ipNacked}
 use Rattle.options.specs.Proto.{startOf, judgeOf, ownNacked}
 use Rattle.options.specs.Reply.{suggestion}
-use Rattle.papers.proofs.Reading.{each-left}
 use Rattle.papers.proofs.Verdicts.{judgedAll}
 use Rattle.papers.proofs.Sending.{Fits}
 use Rattle.papers.proofs.Judging.{takenUp}
 
+-- fresh records are so
+pub fits-fresh : Fits (OfLcp freshLcp) × Fits (OfIpv4cp freshIpv4cp)
+fits-fresh = (omega arith, (omega arith, omega arith, omega arith))
+
 -- the values of a list of bytes are bytes
 pub values-bytes : {s : List ℕ} {os : List Option} → Options s os → Bytes s → Each (λ o. Bytes (o .value)) os
 values-bytes none b = tt
-values-bytes (more {bytes} o h k p) b = (each-left (o .value) bytes (b .1 .1), values-bytes p (each-right _ (o .value) bytes (b .1 .1)))
+values-bytes (more {bytes} o h k p) b = (each-left _ (o .value) bytes (b .1 .1), values-bytes p (each-right _ (o .value) bytes (b .1 .1)))
 
 -- four bytes say a number of 32 bits
 four-bytes : (rej : Bool) (d : List ℕ) → Bytes d → not rej && eqb (length d) 4 ≡ true → beOf d < 0x100000000

@@ -2,12 +2,13 @@
 -- Assumes nothing.
 use mathlib.Core.Path.{_≡_, refl, ap}
 use mathlib.Core.List.{List, [], _∷_, _++_}
-use Prim.Native.Nat.{ℕ, _+_, _-_, _*_, _/_, _%_, _≤_}
+use Prim.Native.Nat.{ℕ, _+_, _-_, _*_, _/_, _%_, _≤_, _<_}
 use native.Mathlib.Omega.{arith}
 use lib.ListN.{length, take, drop, getD, take-append-drop}
 use lib.Seq.{length-take-le, take-append-add, drop-append-add}
 use Rattle.laws.specs.Be.{beFrom}
 use Rattle.laws.specs.Each.{Bytes}
+use Rattle.laws.proofs.Each.{each-left}
 use Rattle.papers.specs.Rfc1661.{Encapsulated, Carried}
 use Rattle.options.specs.Wire.{protocolIn, lengthField}
 use Rattle.papers.proofs.Packets.{read-as}
@@ -82,11 +83,7 @@ packet-readable x =
     record { least = omega (arith, r .count); within = r .within }
 
 -- the data are bytes as well
-pub each-left : (a b : List ℕ) → Bytes (a ++ b) → Bytes a
-each-left [] b h = tt
-each-left (x ∷ a) b h = (h .0, each-left a b (h .1))
-
 pub data-bytes : {s d : List ℕ} {p c i : ℕ} → Carried s p c i d → Bytes s → Bytes d
 data-bytes {s} {d} x b =
     let u = rw (x .packet .laid) at (rw (x .encapsulated .laid) at b) in
-    each-left d (x .packet .padding) (u .1 .1 .1 .1 .1 .1)
+    each-left (λ (y : ℕ). y < 256) d (x .packet .padding) (u .1 .1 .1 .1 .1 .1)
