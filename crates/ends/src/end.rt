@@ -7,6 +7,7 @@ use crate::wire::lent;
 use crate::wire::plus;
 use framing::encode::encode;
 use framing::frame_reader::Reading;
+use link::choices::Choices;
 use link::pppos::PPPoS;
 use link::pppos::PPPoSAction;
 use link::pppos::Polled;
@@ -70,7 +71,13 @@ impl End {
     }
 
     pub(crate) fn fresh() -> Self {
-        let c = PPPoS::new(b"", b"", Reading::Crate);
+        let c = PPPoS::new(
+            b"",
+            b"",
+            Choices {
+                reading: Reading::Crate,
+            },
+        );
         let link = c.link;
         End::new(link)
     }

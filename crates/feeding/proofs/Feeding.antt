@@ -11,19 +11,17 @@ use lib.ListN.{length, take, drop, length-drop}
 use lib.Seq.{drop-drop}
 use Rattle.laws.proofs.Cases.{by-test, cond-all}
 use Rattle.framing.proofs.Reader.{consumed-left}
-use Rattle.framing.specs.Reader.{freshReader}
-use Rattle.framing.specs.declared.frame_reader.Reading.{Reading}
-use Rattle.phases.specs.Phases.{newOf, openOf}
 use Rattle.options.proofs.Walks.{rest}
-use Rattle.link.specs.Link.{Changes, heldBy, Consumes, pollLink, Polls}
+use Rattle.link.specs.Link.{Makes, Opens, heldBy, Consumes, pollLink, Polls}
 use Rattle.feeding.specs.Feed.{started, Run, runOf, turned, idleAfter, turns, fedLink, Feeds}
 use Rattle.link.specs.declared.refusal.Outcome.{Outcome}
+use Rattle.link.specs.declared.choices.Choices.{Choices}
 use Rattle.link.specs.declared.pppos.PPPoS.{PPPoS}
 use Rattle.link.specs.declared.pppos.PPPoSAction.{PPPoSAction}
 
-pub start-polls : {k : Reading} {l l′ l″ : PPPoS} {o o′ : Outcome} {a : PPPoSAction} {tx′ rx′ : List ℕ} (tx rx : List ℕ)
-    → Changes (newOf [] []) (freshReader k) o l → Changes (openOf (l .ppp)) (l .«frame_reader») o′ l′ → Polls (pollLink l′ tx rx) a l″ tx′ rx′
-    → Polls (started k tx rx) a l″ tx′ rx′
+pub start-polls : {c : Choices} {l l′ l″ : PPPoS} {o o′ : Outcome} {a : PPPoSAction} {tx′ rx′ : List ℕ} (tx rx : List ℕ)
+    → Makes [] [] c o l → Opens l o′ l′ → Polls (pollLink l′ tx rx) a l″ tx′ rx′
+    → Polls (started c tx rx) a l″ tx′ rx′
 unfolding started
 start-polls tx rx n o p = rw (o .link, n .link) at p
 

@@ -6,13 +6,13 @@ use Prim.Native.Nat.{ℕ, zero, suc, _+_, _-_, _*_}
 use lib.Dec.{eqb, leb}
 use lib.ListN.{length}
 use Rattle.framing.specs.Reader.{Fed, consumed}
-use Rattle.framing.specs.declared.frame_reader.Reading.{Reading}
 use Rattle.link.specs.Link.{linkOf, newLink, openLink, heldBy, Poll, pollLink}
+use Rattle.link.specs.declared.choices.Choices.{Choices}
 use Rattle.link.specs.declared.pppos.PPPoS.{PPPoS}
 
 -- a fresh link with no name and no password, opened and polled once
-unfoldable pub started : Reading → List ℕ → List ℕ → Poll
-started k tx rx = pollLink (openLink (newLink [] [] k)) tx rx
+unfoldable pub started : Choices → List ℕ → List ℕ → Poll
+started c tx rx = pollLink (openLink (newLink [] [] c)) tx rx
 
 -- the link, both buffers, and the bytes that are not taken yet
 pub record Run : Type 0 where

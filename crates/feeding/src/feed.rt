@@ -3,7 +3,7 @@ ghost use mathlib.Core.Path.{_≡_};
 ghost use Prim.Native.Nat.{_<_};
 ghost use Rattle.link.specs.Link.{Polls};
 ghost use Rattle.feeding.specs.Feed.{started, runOf, turned, idleAfter, fedLink, Feeds};
-use framing::frame_reader::Reading;
+use link::choices::Choices;
 use link::pppos::PPPoS;
 use link::pppos::Polled;
 
@@ -13,10 +13,10 @@ pub struct Fed {
 }
 
 // A fresh link with no name and no password, opened and polled once.
-pub fn start(reading: Reading, tx: &mut [u8], rx: &mut [u8]) -> Polled
-    ensures { λ p. ⌜ Polls (started reading (now (tx .entry)) (now (rx .entry))) (p .action) (p .link) (now (tx .exit)) (now (rx .exit)) ⌝ }
+pub fn start(choices: Choices, tx: &mut [u8], rx: &mut [u8]) -> Polled
+    ensures { λ p. ⌜ Polls (started choices (now (tx .entry)) (now (rx .entry))) (p .action) (p .link) (now (tx .exit)) (now (rx .exit)) ⌝ }
 {
-    let c = PPPoS::new(b"", b"", reading);
+    let c = PPPoS::new(b"", b"", choices);
     let l = c.link;
     let o = l.open();
     let l = o.link;

@@ -13,6 +13,7 @@ pub mod Only
 pub mod Paper
 pub mod Reader
 pub mod Run
+pub mod SameReading
 pub mod Stuffing
 pub mod Unstuffing
 pub mod Writes

@@ -1,4 +1,6 @@
+pub mod Chosen
 pub mod Hearing
+pub mod Leaving
 pub mod Numbers
 pub mod OneAnswer
 pub mod Passing

@@ -1,4 +1,5 @@
 pub mod Refusal
+pub mod Choices
 pub mod Frames
 pub mod Link
 pub mod Reached

@@ -8,7 +8,6 @@ use lib.Dec.{ltb, leb, eqb}
 use lib.ListN.{length, set, take, drop}
 use Rattle.framing.specs.Writer.{over, holds, Lays}
 use Rattle.framing.specs.Reader.{isComplete, isShort, Held, held, consumed, fetched, packetOf, freshReader}
-use Rattle.framing.specs.declared.frame_reader.Reading.{Reading}
 use Rattle.framing.specs.declared.frame_reader.FrameReader.{FrameReader}
 use Rattle.framing.specs.declared.refusal.Refusal.the-variants as framing
 use Rattle.framing.specs.declared.refusal.Outcome as framed
@@ -24,6 +23,7 @@ use Rattle.link.specs.declared.refusal.Refusal.{Refusal}
 use Rattle.link.specs.declared.refusal.Refusal.the-variants.{Framing, Negotiation, FramesFull}
 use Rattle.link.specs.declared.refusal.Outcome.{Outcome}
 use Rattle.link.specs.declared.refusal.Outcome.the-variants.{Done, Refused}
+use Rattle.link.specs.declared.choices.Choices.{Choices}
 use Rattle.link.specs.declared.pppos.PPPoS.{PPPoS}
 use Rattle.link.specs.declared.pppos.PPPoSAction.{PPPoSAction}
 use Rattle.link.specs.declared.pppos.Polled.{Polled}
@@ -50,8 +50,8 @@ framingOutcome (framed.the-variants.Refused why) = Refused (Framing why)
 -- ---- new and open
 
 -- refusal 4 leaves a fresh link with both credentials empty, in the reading asked for
-abbrev pub newLink : List ℕ → List ℕ → Reading → PPPoS
-newLink name password k = linkOf (freshReader k) (newOf name password .ppp)
+abbrev pub newLink : List ℕ → List ℕ → Choices → PPPoS
+newLink name password c = linkOf (freshReader (c .reading)) (newOf name password .ppp)
 
 abbrev pub openLink : PPPoS → PPPoS
 openLink l = linkOf (l .«frame_reader») (openOf (l .ppp) .ppp)
@@ -61,6 +61,13 @@ pub record Changes (t : PppTurn) (r : FrameReader) (o : Outcome) (l : PPPoS) : T
   pub number : outcomeNumber o ≡ refusals.outcomeNumber (t .outcome)
   pub outcome : o ≡ outcomeOf (t .outcome)
   pub link : l ≡ linkOf r (t .ppp)
+
+-- a link made with these choices
+abbrev pub Makes : List ℕ → List ℕ → Choices → Outcome → PPPoS → Type 0
+Makes name password c o l = Changes (newOf name password) (freshReader (c .reading)) o l
+
+abbrev pub Opens : PPPoS → Outcome → PPPoS → Type 0
+Opens l o l′ = Changes (openOf (l .ppp)) (l .«frame_reader») o l′
 
 -- ---- consume
 

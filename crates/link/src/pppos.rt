@@ -2,10 +2,11 @@
 ghost use mathlib.Core.Path.{_≡_};
 ghost use Prim.Native.Nat.{_-_, _≤_, _<_};
 ghost use lib.ListN.{length, take, drop};
-ghost use Rattle.framing.specs.Reader.{freshReader};
-ghost use Rattle.phases.specs.Phases.{openOf, newOf, statusOf};
+ghost use Rattle.phases.specs.Phases.{statusOf};
+ghost use Rattle.link.specs.Choices.{choicesOf};
 ghost use Rattle.link.specs.Frames.{Short};
-ghost use Rattle.link.specs.Link.{linkOf, outcomeOf, framingOutcome, Changes, Consumes, echoedIn, asPoll, writtenAs, replied, isIp, packetPoll, pollLink, Polls, Sends, HandsOut};
+ghost use Rattle.link.specs.Link.{linkOf, outcomeOf, framingOutcome, Makes, Opens, Consumes, echoedIn, asPoll, writtenAs, replied, isIp, packetPoll, pollLink, Polls, Sends, HandsOut};
+use crate::choices::Choices;
 use crate::frames::fits;
 use crate::frames::put_replies;
 use crate::refusal::Outcome;
@@ -13,7 +14,6 @@ use crate::refusal::Refusal;
 use framing::encode::encode_parts;
 use framing::frame_reader::FrameReader;
 use framing::frame_reader::Got;
-use framing::frame_reader::Reading;
 use phases::ppp::Ppp;
 use phases::ppp::Status;
 use phases::ppp::Turned;
@@ -104,9 +104,10 @@ fn store_echo(echoed: bool, rx: &mut [u8])
 
 impl PPPoS {
     // Phase Dead; `open` starts the link.
-    pub fn new(username: &[u8], password: &[u8], reading: Reading) -> Changed
-        ensures { λ r. ⌜ Changes (newOf (now (username .entry)) (now (password .entry))) (freshReader reading) (r .outcome) (r .link) ⌝ }
+    pub fn new(username: &[u8], password: &[u8], choices: Choices) -> Changed
+        ensures { λ r. ⌜ Makes (now (username .entry)) (now (password .entry)) choices (r .outcome) (r .link) ⌝ }
     {
+        let reading = choices.reading;
         let c = Ppp::new(username, password);
         let o = c.outcome;
         let ppp = c.ppp;
@@ -119,8 +120,17 @@ impl PPPoS {
         }
     }
 
+    // What was chosen when the link was made.
+    pub fn choices(self) -> Choices
+        ensures { λ r. ⌜ r ≡ choicesOf self ⌝ }
+    {
+        let r = self.frame_reader;
+        let reading = r.reading;
+        Choices { reading }
+    }
+
     pub fn open(self) -> Changed
-        ensures { λ r. ⌜ Changes (openOf (self .ppp)) (self .«frame_reader») (r .outcome) (r .link) ⌝ }
+        ensures { λ r. ⌜ Opens self (r .outcome) (r .link) ⌝ }
     {
         let p = self.ppp;
         let c = p.open();

@@ -5,30 +5,28 @@ use mathlib.Core.Path.{_≡_, refl}
 use mathlib.Core.List.{List}
 use Prim.Native.Nat.{ℕ}
 use lib.ListN.{take}
-use Rattle.framing.specs.Reader.{freshReader}
-use Rattle.framing.specs.declared.frame_reader.Reading.{Reading}
-use Rattle.phases.specs.Phases.{newOf, openOf}
 use Rattle.link.specs.Refusal.{outcomeNumber}
-use Rattle.link.specs.Link.{Changes, Consumes, Polls, pollLink, actionNumber, transmitted}
+use Rattle.link.specs.Link.{Makes, Opens, Consumes, Polls, pollLink, actionNumber, transmitted}
 use Rattle.link.specs.Reached.{Reached, by-new, by-open, by-consume, by-poll}
 use Rattle.link.specs.declared.refusal.Outcome.{Outcome}
+use Rattle.link.specs.declared.choices.Choices.{Choices}
 use Rattle.link.specs.declared.pppos.PPPoS.{PPPoS}
 use Rattle.link.specs.declared.pppos.PPPoSAction.{PPPoSAction}
 use Rattle.meeting.specs.Calls.{endOf, Answer, opens, takes}
 
 -- ---- reached, whatever is lent and whether or not it is refused
 
-pub new-reaches : (name password : List ℕ) (k : Reading) {o : Outcome} {l : PPPoS} → Changes (newOf name password) (freshReader k) o l → Reached l
-new-reaches name password k c = rw (c .link) (by-new name password k)
+pub new-reaches : (name password : List ℕ) (c : Choices) {o : Outcome} {l : PPPoS} → Makes name password c o l → Reached c l
+new-reaches name password c m = rw (m .link) (by-new name password)
 
-module _ {l l′ : PPPoS} (r : Reached l) where
-  pub open-reaches : {o : Outcome} → Changes (openOf (l .ppp)) (l .«frame_reader») o l′ → Reached l′
-  open-reaches c = rw (c .link) (by-open l r)
+module _ {c : Choices} {l l′ : PPPoS} (r : Reached c l) where
+  pub open-reaches : {o : Outcome} → Opens l o l′ → Reached c l′
+  open-reaches m = rw (m .link) (by-open l r)
 
-  pub consume-reaches : (rx bs : List ℕ) {o : Outcome} {n : ℕ} {rx′ : List ℕ} → Consumes l rx bs o n l′ rx′ → Reached l′
-  consume-reaches rx bs c = rw (c .link) (by-consume l rx bs r)
+  pub consume-reaches : (rx bs : List ℕ) {o : Outcome} {n : ℕ} {rx′ : List ℕ} → Consumes l rx bs o n l′ rx′ → Reached c l′
+  consume-reaches rx bs m = rw (m .link) (by-consume l rx bs r)
 
-  pub poll-reaches : (tx rx : List ℕ) {a : PPPoSAction} {tx′ rx′ : List ℕ} → Polls (pollLink l tx rx) a l′ tx′ rx′ → Reached l′
+  pub poll-reaches : (tx rx : List ℕ) {a : PPPoSAction} {tx′ rx′ : List ℕ} → Polls (pollLink l tx rx) a l′ tx′ rx′ → Reached c l′
   poll-reaches tx rx p = rw (p .link) (by-poll l tx rx r)
 
 -- ---- the statement's calls
@@ -38,7 +36,7 @@ abbrev pub answerOf : Outcome → ℕ → PPPoSAction → PPPoS → List ℕ →
 answerOf o n a l tx rx = record { now = endOf l rx; used = n; written = take (transmitted a) tx; first = outcomeNumber o; polled = actionNumber a }
 
 module _ (l : PPPoS) {o : Outcome} {l′ : PPPoS} {a : PPPoSAction} {l″ : PPPoS} {tx′ rx″ : List ℕ} (tx rx : List ℕ) where
-  pub opens-called : Changes (openOf (l .ppp)) (l .«frame_reader») o l′ → Polls (pollLink l′ tx rx) a l″ tx′ rx″
+  pub opens-called : Opens l o l′ → Polls (pollLink l′ tx rx) a l″ tx′ rx″
       → answerOf o 0 a l″ tx′ rx″ ≡ opens (endOf l rx) tx
   unfolding opens
   opens-called c p = rw (p .action, p .link, p .transmit, p .receive, c .outcome, c .link) refl

@@ -1,4 +1,4 @@
--- The statement speaks of something: two fresh links, with any credentials and each in either reading, meet.
+-- The statement speaks of something: two fresh links, with any credentials and any plain choices, meet.
 -- Assumes nothing.
 use mathlib.Core.Path.{_≡_, refl}
 use mathlib.Core.List.{List}
@@ -7,25 +7,28 @@ use Prim.Native.Nat.{ℕ, _≤_}
 use native.Mathlib.Omega.{arith}
 use lib.ListN.{length}
 use Rattle.laws.proofs.Cases.{cond-all}
-use Rattle.framing.specs.declared.frame_reader.Reading.{Reading}
 use Rattle.negotiation.specs.Pap.{fitsCredentials}
 use Rattle.phases.specs.Phases.{PppTurn}
 use Rattle.phases.specs.declared.ppp.Phase.the-variants.{Dead}
 use Rattle.link.specs.Link.{newLink}
+use Rattle.link.specs.Choices.{Plain}
 use Rattle.link.specs.Reached.{by-new}
+use Rattle.link.specs.declared.choices.Choices.{Choices}
 use Rattle.meeting.specs.Calls.{End, endOf, Net, begun, Run}
 use Rattle.meeting.specs.Statement.{Ready, Meeting}
 use Rattle.meeting.proofs.Meet.{two-ends-meet}
 
 -- a link that was just made, and its receive buffer
 pub data Fresh : End → Type 0 where
-  made : (name password : List ℕ) (k : Reading) (rx : List ℕ) → 27 ≤ length rx → Fresh (endOf (newLink name password k) rx)
+  made : (name password : List ℕ) (c : Choices) → Plain c → (rx : List ℕ) → 27 ≤ length rx → Fresh (endOf (newLink name password c) rx)
 
 pub fresh-ready : {x : End} → Fresh x → Ready x
-fresh-ready (made name password k rx h) =
+fresh-ready (made name password c p rx h) =
     record {
       dead = cond-all (λ (t : PppTurn). t .ppp .phase ≡ Dead) (fitsCredentials (length name) (length password)) refl refl;
-      reached = by-new name password k;
+      choices = c;
+      plain = p;
+      reached = by-new name password;
       between = inl refl;
       nothing-kept = refl;
       no-escape = refl;

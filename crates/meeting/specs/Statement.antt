@@ -9,14 +9,18 @@ use Rattle.framing.specs.declared.frame_reader.State.the-variants.{Start, Addre
 use Rattle.negotiation.specs.declared.states.State.the-variants.{Opened}
 use Rattle.phases.specs.declared.ppp.Phase.the-variants as Phase
 use Rattle.link.specs.Frames.{frames}
+use Rattle.link.specs.Choices.{Plain}
 use Rattle.link.specs.Reached.{Reached}
+use Rattle.link.specs.declared.choices.Choices.{Choices}
 use Rattle.meeting.specs.Calls.{End, Answer, opens, takes, Net, flip, begun, Run, steps}
 
 -- "Take two links in phase Dead, each reached from a fresh link by calls, each reader between frames with nothing kept and no escape
--- pending": the reading is either, the receive buffer has 27 bytes or more with any contents
+-- pending": made with plain choices, so the reading is either; the receive buffer has 27 bytes or more with any contents
 pub record Ready (x : End) : Type 0 where
   pub dead : x .link .ppp .phase ≡ Phase.Dead
-  pub reached : Reached (x .link)
+  pub choices : Choices
+  pub plain : Plain choices
+  pub reached : Reached choices (x .link)
   pub between : (x .link .«frame_reader» .state ≡ Start) ⊎ (x .link .«frame_reader» .state ≡ Address)
   pub nothing-kept : x .link .«frame_reader» .len ≡ 0
   pub no-escape : x .link .«frame_reader» .escape ≡ false

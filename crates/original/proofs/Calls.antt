@@ -24,12 +24,14 @@ use Rattle.phases.specs.declared.ppp.Phase.{Phase}
 use Rattle.phases.specs.declared.ppp.Phase.the-variants.{Dead, Establish, Auth, Network, Open}
 use Rattle.phases.specs.declared.ppp.Ppp.{Ppp}
 use Rattle.negotiation.proofs.Paps.{fits-sum, credentials-held}
-use Rattle.link.specs.Link.{linkOf, Changes, Consumes}
+use Rattle.link.specs.Choices.{choicesOf, Plain}
+use Rattle.link.specs.Link.{linkOf, Changes, Makes, Opens, Consumes}
 use Rattle.link.specs.Refusal.{outcomeNumber}
 use Rattle.link.specs.declared.refusal.Refusal.the-variants.{Negotiation}
 use Rattle.options.specs.declared.refusal.Refusal.the-variants.{CredentialsLong}
 use Rattle.link.specs.declared.refusal.Outcome.{Outcome}
 use Rattle.link.specs.declared.refusal.Outcome.the-variants.{Done, Refused}
+use Rattle.link.specs.declared.choices.Choices.{Choices}
 use Rattle.link.specs.declared.pppos.PPPoS.{PPPoS}
 use Rattle.original.specs.Run.{Place, returns, panics, nameLong, passwordLong}
 use Rattle.original.specs.Framing.{newReader}
@@ -59,8 +61,8 @@ phase-is Auth = refl
 phase-is Network = refl
 phase-is Open = refl
 
-pub same-status : (l : PPPoS) → statusOf (l .ppp) ≡ asStatus (theirs.statusLink (viewLink l))
-same-status l =
+pub same-status : (l : PPPoS) → Plain (choicesOf l) → statusOf (l .ppp) ≡ asStatus (theirs.statusLink (viewLink l))
+same-status l _ =
     let y = l .ppp .ipv4cp .proto in
     rw (opened-is (l .ppp .ipv4cp .state), ← phase-is (l .ppp .phase))
     (by-test (isOpened (l .ppp .ipv4cp .state))
@@ -77,14 +79,14 @@ open-at Auth r p c = (c .outcome, c .link)
 open-at Network r p c = (c .outcome, c .link)
 open-at Open r p c = (c .outcome, c .link)
 
-pub same-open : (l : PPPoS) {o : Outcome} {l′ : PPPoS} → Changes (openOf (l .ppp)) (l .«frame_reader») o l′ → SameOpen (theirs.openLink (viewLink l)) l o l′
-same-open l c = open-at (l .ppp .phase) (l .«frame_reader») (l .ppp) c
+pub same-open : (l : PPPoS) → Plain (choicesOf l) → {o : Outcome} {l′ : PPPoS} → Opens l o l′ → SameOpen (theirs.openLink (viewLink l)) l o l′
+same-open l _ c = open-at (l .ppp .phase) (l .«frame_reader») (l .ppp) c
 
 -- ---- consume
 
-pub same-consume-link : (l : PPPoS) (rx bs : List ℕ) → l .«frame_reader» .reading ≡ Crate → Lent l rx → Bytes bs → {o : Outcome} {n : ℕ} {l′ : PPPoS} {rx′ : List ℕ} → Consumes l rx bs o n l′ rx′
+pub same-consume-link : (l : PPPoS) (rx bs : List ℕ) → Plain (choicesOf l) → choicesOf l .reading ≡ Crate → Lent l rx → Bytes bs → {o : Outcome} {n : ℕ} {l′ : PPPoS} {rx′ : List ℕ} → Consumes l rx bs o n l′ rx′
     → (o ≡ Done) × (theirs.consumeLink (viewLink l) bs rx ≡ returns (record { count = n; link = viewLink l′; rx = rx′ })) × (l′ .«frame_reader» .reading ≡ Crate)
-same-consume-link l rx bs crate lent given c =
+same-consume-link l rx bs _ crate lent given c =
     let h = le-ltb (length rx) (l .«frame_reader» .len) (lent .room) in
     let run =
     same-consume (l .«frame_reader») rx bs crate (lent .room) (lent .slice) (lent .bytes) given {o = framed.Done}
@@ -113,19 +115,19 @@ fresh-is name password k h =
     let held = credentials-held name password h in
     rw (le-ltb 255 (length name) (omega arith), le-ltb 255 (length password) (omega arith), fits-is (length name) (length password) h, held .0, held .1) refl
 
-module _ (name password : List ℕ) {o : Outcome} {l : PPPoS} (c : Changes (newOf name password) (reader.freshReader Crate) o l) where
-  fresh : l .«frame_reader» .reading ≡ Crate
-  fresh = ap (λ (x : PPPoS). x .«frame_reader» .reading) (c .link)
+module _ (name password : List ℕ) (k : Choices) {o : Outcome} {l : PPPoS} (c : Makes name password k o l) where
+  fresh : k .reading ≡ Crate → l .«frame_reader» .reading ≡ Crate
+  fresh crate = ap (λ (x : PPPoS). x .«frame_reader» .reading) (c .link) ∙ crate
 
-  pub new-fits : length name + length password ≤ 120 → (o ≡ Done) × (theirs.newLink name password ≡ returns (viewLink l)) × (l .«frame_reader» .reading ≡ Crate)
-  new-fits h =
-      (c .outcome ∙ rw (fits-is (length name) (length password) h) refl, fresh-is name password Crate h ∙ ap returns (sym (ap viewLink (c .link))), fresh)
+  pub new-fits : k .reading ≡ Crate → length name + length password ≤ 120 → (o ≡ Done) × (theirs.newLink name password ≡ returns (viewLink l)) × (l .«frame_reader» .reading ≡ Crate)
+  new-fits crate h =
+      (c .outcome ∙ rw (fits-is (length name) (length password) h) refl, fresh-is name password (k .reading) h ∙ ap returns (sym (ap viewLink (c .link))), fresh crate)
 
-  pub new-over : 120 < length name + length password → (o ≡ Refused (Negotiation CredentialsLong)) × (theirs.newLink [] [] ≡ returns (viewLink l)) × (l .«frame_reader» .reading ≡ Crate)
-  new-over h =
+  pub new-over : k .reading ≡ Crate → 120 < length name + length password → (o ≡ Refused (Negotiation CredentialsLong)) × (theirs.newLink [] [] ≡ returns (viewLink l)) × (l .«frame_reader» .reading ≡ Crate)
+  new-over crate h =
       let e = fits-not (length name) (length password) h in
-      let link : l ≡ linkOf (reader.freshReader Crate) (newOf [] [] .ppp) = c .link ∙ rw e refl in
-      (c .outcome ∙ rw e refl, fresh-is [] [] Crate (lit≤ tt) ∙ ap returns (sym (ap viewLink link)), fresh)
+      let link : l ≡ linkOf (reader.freshReader (k .reading)) (newOf [] [] .ppp) = c .link ∙ rw e refl in
+      (c .outcome ∙ rw e refl, fresh-is [] [] (k .reading) (lit≤ tt) ∙ ap returns (sym (ap viewLink link)), fresh crate)
 
   pub new-panics : {p : Place} → theirs.newLink name password ≡ panics p → outcomeNumber o ≡ numberAt p
   new-panics {p} e =
@@ -144,4 +146,4 @@ module _ (name password : List ℕ) {o : Outcome} {l : PPPoS} (c : Changes (newO
       apart (cc)))
     where
       four : 120 < length name + length password → outcomeNumber o ≡ 4
-      four h = ap outcomeNumber (new-over h .0)
+      four h = let e : o ≡ Refused (Negotiation CredentialsLong) = c .outcome ∙ rw (fits-not (length name) (length password) h) refl in ap outcomeNumber e

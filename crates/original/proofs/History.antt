@@ -4,10 +4,10 @@ use mathlib.Core.Path.{_≡_, refl, ap, ap₂, sym, _∙_}
 use mathlib.Core.List.{List, [], _∷_, map}
 use Prim.Native.Nat.{ℕ}
 use Rattle.laws.proofs.Cases.{apart, by-test}
-use Rattle.framing.specs.declared.frame_reader.Reading.the-variants.{Crate}
 use Rattle.link.specs.Reached.{Reached, by-new, by-open, by-consume, by-poll}
 use Rattle.link.specs.declared.refusal.Outcome.{Outcome}
 use Rattle.link.specs.declared.refusal.Outcome.the-variants.{Done}
+use Rattle.link.specs.declared.choices.Choices.{Choices}
 use Rattle.link.specs.declared.pppos.PPPoS.{PPPoS}
 use Rattle.original.specs.Run.{Run, returns, panics, _>>=_, Result, ok, err}
 use Rattle.original.specs.Framing.{Wrote}
@@ -33,7 +33,7 @@ call-kept {l} (history.by-consume {bs} {rx} b lent c) k = record { lasting = all
 call-kept {l} (history.by-poll {tx} {rx} lent c) k = record { lasting = all-last .lasting .poll l tx rx (lent .bytes) (k .lasting) c; framed = all-last .framed .poll l tx rx (lent .bytes) (k .framed) c }
 call-kept (history.by-send b c) k = k
 
-call-reached : {l : PPPoS} {c : Call} {a : OurAnswer} {l′ : PPPoS} → Called l c a l′ → Reached l → Reached l′
+call-reached : {k : Choices} {l : PPPoS} {c : Call} {a : OurAnswer} {l′ : PPPoS} → Called l c a l′ → Reached k l → Reached k l′
 call-reached {l} (history.by-open c) h = rw (c .link) (by-open l h)
 call-reached history.by-status h = h
 call-reached {l} (history.by-consume {bs} {rx} b lent c) h = rw (c .link) (by-consume l rx bs h)
@@ -44,7 +44,7 @@ calls-kept : {l : PPPoS} {cs : List Call} {xs : List OurAnswer} {l′ : PPPoS} �
 calls-kept none k = k
 calls-kept (next c rest) k = calls-kept rest (call-kept c k)
 
-calls-reached : {l : PPPoS} {cs : List Call} {xs : List OurAnswer} {l′ : PPPoS} → Calls l cs xs l′ → Reached l → Reached l′
+calls-reached : {k : Choices} {l : PPPoS} {cs : List Call} {xs : List OurAnswer} {l′ : PPPoS} → Calls l cs xs l′ → Reached k l → Reached k l′
 calls-reached none h = h
 calls-reached (next c rest) h = calls-reached rest (call-reached c h)
 
@@ -52,15 +52,15 @@ module _ {name password : List ℕ} {cs : List Call} {xs : List OurAnswer} {l : 
   fresh-kept : Kept (h .fresh)
   fresh-kept =
       record {
-        lasting = all-last .lasting .new name password (h .name-bytes) (h .password-bytes) (h .new);
-        framed = all-last .framed .new name password (h .name-bytes) (h .password-bytes) (h .new);
+        lasting = all-last .lasting .new name password (h .choices) (h .plain) (h .crate-reading) (h .name-bytes) (h .password-bytes) (h .new);
+        framed = all-last .framed .new name password (h .choices) (h .plain) (h .crate-reading) (h .name-bytes) (h .password-bytes) (h .new);
       }
 
   pub history-kept : Kept l
   history-kept = calls-kept (h .calls) fresh-kept
 
-  pub history-reached : Reached l
-  history-reached = calls-reached (h .calls) (rw (h .new .link) (by-new name password Crate))
+  pub history-reached : Reached (h .choices) l
+  history-reached = calls-reached (h .calls) (rw (h .new .link) (by-new name password))
 
 -- ---- one call
 
@@ -79,12 +79,12 @@ sent-same w s = by-test (w .isOk) (λ t. rw (s .outcome, s .count, s .bytes, t) 
 call-same : {l : PPPoS} {c : Call} {a : OurAnswer} {l′ : PPPoS} → Called l c a l′ → Kept l → (s : Answered) → callOf (viewLink l) c ≡ returns s → SameCall a l′ s
 call-same {l} (history.by-open c) k s e =
     let z : openedBy (viewLink l) (theirs.openLink (viewLink l)) ≡ s = cc in
-    rw z at (opened-same l (theirs.openLink (viewLink l)) (same-link .«open» l c))
+    rw z at (opened-same l (theirs.openLink (viewLink l)) (same-link .«open» l (k .lasting .plain) c))
 call-same {l} history.by-status k s e =
     let z : record { answer = history.showed (theirs.statusLink (viewLink l)); link = viewLink l } ≡ s = cc in
-    rw (← z) (record { answer = ap history.showed (same-link .status l); link = refl })
+    rw (← z) (record { answer = ap history.showed (same-link .status l (k .lasting .plain)); link = refl })
 call-same {l} (history.by-consume {bs} {rx} {o} {n} {l′} {rx′} b lent c) k s e =
-    let run = same-link .consume l rx bs (k .lasting .crate-reading) lent b c in
+    let run = same-link .consume l rx bs (k .lasting .plain) (k .lasting .crate-reading) lent b c in
     let z : record { answer = history.took n rx′; link = viewLink l′ } ≡ s = cc in
     rw (← z) (record { answer = ap (λ (x : Outcome). history.took x n rx′) (run .0); link = refl })
 call-same {l} (history.by-poll {tx} {rx} {a} {l′} {tx′} {rx′} lent c) k s e = go (theirs.poll (viewLink l) tx rx) refl
@@ -97,7 +97,7 @@ call-same {l} (history.by-poll {tx} {rx} {a} {l′} {tx′} {rx′} lent c) k s 
     go (panics place) f = apart cc
 call-same {l} (history.by-send {pkt} {tx} b c) k s e =
     let z : record { answer = sentBy (theirs.send (viewLink l) pkt tx); link = viewLink l } ≡ s = cc in
-    rw (← z) (record { answer = sent-same (theirs.send (viewLink l) pkt tx) (same-link .send l pkt tx b c); link = refl })
+    rw (← z) (record { answer = sent-same (theirs.send (viewLink l) pkt tx) (same-link .send l pkt tx (k .lasting .plain) b c); link = refl })
 
 -- ---- one call after the other
 
@@ -131,7 +131,7 @@ calls-same (next {l} {c} {a} {m} {cs} {xs} {n} one rest) k r e = go (λ q f. cal
 histories-same : {name password : List ℕ} {cs : List Call} {xs : List OurAnswer} {l : PPPoS} → (h : History name password cs xs l) → {r : Ran} → runOf name password cs ≡ returns r
     → (h .outcome ≡ Done) × (xs ≡ map asAnswer (r .answers)) × (viewLink l ≡ r .link)
 histories-same {name} {password} {cs} h {r} e =
-    let new = same-link .new name password (h .fits) (h .new) in
+    let new = same-link .new name password (h .choices) (h .plain) (h .crate-reading) (h .fits) (h .new) in
     let run = calls-same (h .calls) (fresh-kept h) r (sym (ap (λ (x : Run theirs.PPPoS). x >>= λ m. callsOf m cs) (new .1)) ∙ e) in
     (new .0, run .0, run .1)
 

@@ -17,8 +17,6 @@ use Rattle.framing.specs.declared.frame_reader.Reading.the-variants.{Crate}
 use Rattle.framing.proofs.Reader.{fresh-framed, consumed-framed}
 use Rattle.options.specs.Refusal.{isDone}
 use Rattle.options.specs.Wire.{protocolIn, lengthField}
-use Rattle.options.specs.declared.refusal.Outcome.{Outcome}
-use Rattle.options.specs.declared.refusal.Outcome.the-variants.{Done, Refused}
 use Rattle.options.specs.declared.lcp.AuthType.{AuthType}
 use Rattle.options.specs.declared.lcp.AuthType.the-variants as authType
 use Rattle.negotiation.specs.Automaton.{isClosed, isOpened}
@@ -30,15 +28,17 @@ use Rattle.phases.specs.Phases.{freshPpp, withPhase, withOpening, PppTurn, Step
 use Rattle.phases.specs.declared.ppp.Phase.{Phase}
 use Rattle.phases.specs.declared.ppp.Phase.the-variants.{Dead, Establish, Auth, Network, Open}
 use Rattle.phases.specs.declared.ppp.Ppp.{Ppp}
-use Rattle.link.specs.Frames.{frames}
-use Rattle.link.specs.Link.{linkOf, heldBy, Poll, byOutcome, answered, isIp, packetPoll, pollLink}
+use Rattle.link.specs.Choices.{choicesOf, Plain}
+use Rattle.link.specs.Link.{linkOf, heldBy, isIp, pollLink}
+use Rattle.link.specs.declared.choices.Choices.{Choices}
 use Rattle.link.specs.declared.pppos.PPPoS.{PPPoS}
+use Rattle.link.proofs.Leaving.{poll-leaves}
+use Rattle.link.proofs.Chosen.{makes-chosen, opens-keeps, consumes-keeps, polls-keeps}
 use Rattle.original.specs.Run.{Run}
 use Rattle.original.specs.Ppp as ppp
 use Rattle.original.specs.View.{viewPpp}
 use Rattle.original.specs.Domain.{Lasting, Framed, Whole, Lasts, AllLast}
 use Rattle.original.proofs.Bytes.{each-take, each-drop}
-use Rattle.original.proofs.Reader.{fed-crate}
 use Rattle.original.proofs.Received.{Held, SameReceived, same, long, stops, received-same}
 use Rattle.original.proofs.Opening as opening
 use Rattle.original.proofs.Phases.{phase-same}
@@ -54,48 +54,30 @@ module _ (P : PPPoS → Type 0) (fetch : (r : FrameReader) (p : Ppp) → P (link
       cond-by (λ (t : PppTurn). P (linkOf r (t .ppp))) (isDone (receivedOf p pkt .outcome))
       (λ done. step r (receivedOf p pkt .ppp) (hear r p pkt bytes other done k)) (λ _. k)
 
-  module _ (l : PPPoS) (tx rx : List ℕ) (bytes : Bytes rx) (k : P l) where
-    abbrev After : Poll → Type 0
-    After q = P (q .link)
-
-    answered-lasts : (r : FrameReader) (t : PppTurn) → P (linkOf r (l .ppp)) → P (linkOf r (t .ppp)) → After (answered l r t tx rx)
-    unfolding answered
-    answered-lasts r t old new = go (t .outcome)
-      where
-        go : (o : Outcome) → After (byOutcome o l r t tx rx)
-        go Done = cond-all After (leb (length (frames (t .sent))) (length tx)) new k
-        go (Refused why) = old
-
-    poll-lasts : After (pollLink l tx rx)
-    unfolding pollLink packetPoll
-    poll-lasts =
-        let r = l .«frame_reader» in
-        let pkt = reader.packetOf (heldBy l rx) in
-        let next = fetch r (l .ppp) k in
-        let parts = each-take (λ b. b < 256) (r .len - 2 - 1) (drop 1 rx) (each-drop (λ b. b < 256) 1 rx bytes) in
-        cond-all After (reader.isShort (heldBy l rx)) k
-        (cond-all After (reader.isComplete (r .state))
-        (cond-all After (ltb (r .len) 3) next
-        (cond-by After (isIp pkt) (λ _. next) (λ other. answered-lasts (reader.fetched r) (turnOf (l .ppp) pkt) next (turn-lasts (reader.fetched r) (l .ppp) pkt parts other next))))
-        (answered-lasts r (pollOf (l .ppp)) k (step r (l .ppp) k)))
+  poll-lasts : (l : PPPoS) (tx rx : List ℕ) → Bytes rx → P l → P (pollLink l tx rx .link)
+  poll-lasts l tx rx bytes k =
+      let r = l .«frame_reader» in
+      let next = fetch r (l .ppp) k in
+      let parts = each-take (λ b. b < 256) (r .len - 2 - 1) (drop 1 rx) (each-drop (λ b. b < 256) 1 rx bytes) in
+      poll-leaves P l tx rx k next (λ other. turn-lasts (reader.fetched r) (l .ppp) (reader.packetOf (heldBy l rx)) parts other next) (step r (l .ppp) k)
 
   -- and of the other calls
-  lasts-by : ((name password : List ℕ) → Bytes name → Bytes password → length name + length password ≤ 120 → P (linkOf (reader.freshReader Crate) (freshPpp name password)))
+  lasts-by : ((name password : List ℕ) (c : Choices) → Bytes name → Bytes password → length name + length password ≤ 120 → P (linkOf (reader.freshReader (c .reading)) (freshPpp name password)))
       → ((r : FrameReader) (p : Ppp) → P (linkOf r p) → P (linkOf r (withOpening (withPhase p Establish) true)))
       → ((l : PPPoS) (rx bs : List ℕ) → P l → P (linkOf (reader.consumed (heldBy l rx) bs .now .reader) (l .ppp))) → Lasts P
   lasts-by fresh opened fed =
       record {
-        new = λ name password b c x. rw (x .link) (made name password b c);
+        new = λ name password c _ _ b d x. rw (x .link) (made name password c b d);
         «open» = λ l k x. rw (x .link) (cond-all (λ (t : PppTurn). P (linkOf (l .«frame_reader») (t .ppp))) (isDead (l .ppp .phase)) (opened (l .«frame_reader») (l .ppp) k) k);
         consume = λ l rx bs k x. rw (x .link) (fed l rx bs k);
         poll = λ l tx rx b k x. rw (x .link) (poll-lasts l tx rx b k);
       }
     where
-      made : (name password : List ℕ) → Bytes name → Bytes password → P (linkOf (reader.freshReader Crate) (newOf name password .ppp))
-      made name password b c =
-          cond-by (λ (t : PppTurn). P (linkOf (reader.freshReader Crate) (t .ppp))) (fitsCredentials (length name) (length password))
-          (λ t. fresh name password b c (fits-sum (length name) (length password) t))
-          (λ _. fresh [] [] tt tt (lit≤ tt))
+      made : (name password : List ℕ) (c : Choices) → Bytes name → Bytes password → P (linkOf (reader.freshReader (c .reading)) (newOf name password .ppp))
+      made name password c b d =
+          cond-by (λ (t : PppTurn). P (linkOf (reader.freshReader (c .reading)) (t .ppp))) (fitsCredentials (length name) (length password))
+          (λ t. fresh name password c b d (fits-sum (length name) (length password) t))
+          (λ _. fresh [] [] c tt tt (lit≤ tt))
 
 -- ---- a received packet
 
@@ -170,30 +152,41 @@ zeros : (n : ℕ) → Bytes (replicate n 0)
 zeros zero = tt
 zeros (suc n) = (lit< tt, zeros n)
 
-lasting-by : (r : FrameReader) (p : Ppp) → r .reading ≡ Crate → Held p → Lasting (linkOf r p)
-lasting-by r p crate h = record { crate-reading = crate; lcp-id = h .lcp-id; ipv4cp-id = h .ipv4cp-id; pap-id = h .pap .id; credentials = h .pap .bytes }
+-- what was chosen: by the link's own laws
+chosen-lasts : Lasts (λ l. Plain (choicesOf l) × (choicesOf l .reading ≡ Crate))
+chosen-lasts =
+    record {
+      new = λ name password c p k _ _ x. rw (makes-chosen name password c x) (p, k);
+      «open» = λ l k x. rw (opens-keeps l x) k;
+      consume = λ l rx bs k x. rw (consumes-keeps l rx bs x) k;
+      poll = λ l tx rx _ k x. rw (polls-keeps l tx rx x) k;
+    }
 
-consumed-crate : (s : reader.Held) (bs : List ℕ) → s .reader .reading ≡ Crate → reader.consumed s bs .now .reader .reading ≡ Crate
-unfolding reader.consumed
-consumed-crate s bs e = cond-all (λ (f : reader.Fed). f .now .reader .reading ≡ Crate) (reader.isShort s) e (fed-crate s bs e)
+held-lasts : Lasts (λ l. Held (l .ppp))
+held-lasts =
+    lasts-by (λ l. Held (l .ppp)) (λ r p k. k) (λ r p k. phase-held p k) (λ r p pkt bytes other done k. received-held p pkt k bytes other done)
+    (λ name password c b d _.
+    let both = name ++ password in
+    let filled = each-append (λ x. x < 256) both (replicate (120 - length both) 0) (each-append (λ x. x < 256) name password b d) (zeros (120 - length both)) in
+    record { lcp-id = lit< tt; ipv4cp-id = lit< tt; pap = record { id = lit< tt; bytes = filled } })
+    (λ r p k. record { lcp-id = k .lcp-id; ipv4cp-id = k .ipv4cp-id; pap = k .pap }) (λ l rx bs k. k)
+
+lasting-by : {l : PPPoS} → Plain (choicesOf l) × (choicesOf l .reading ≡ Crate) → Held (l .ppp) → Lasting l
+lasting-by c h = record { plain = c .0; crate-reading = c .1; lcp-id = h .lcp-id; ipv4cp-id = h .ipv4cp-id; pap-id = h .pap .id; credentials = h .pap .bytes }
 
 lasting-lasts : Lasts Lasting
 lasting-lasts =
-    lasts-by Lasting
-    (λ r p k. lasting-by (reader.fetched r) p (k .crate-reading) (lasting-held k))
-    (λ r p k. lasting-by r (phaseOf p .ppp) (k .crate-reading) (phase-held p (lasting-held k)))
-    (λ r p pkt bytes other done k. lasting-by r (receivedOf p pkt .ppp) (k .crate-reading) (received-held p pkt (lasting-held k) bytes other done))
-    (λ name password b c _.
-    let both = name ++ password in
-    let filled = each-append (λ x. x < 256) both (replicate (120 - length both) 0) (each-append (λ x. x < 256) name password b c) (zeros (120 - length both)) in
-    lasting-by (reader.freshReader Crate) (freshPpp name password) refl (record { lcp-id = lit< tt; ipv4cp-id = lit< tt; pap = record { id = lit< tt; bytes = filled } }))
-    (λ r p k. record { crate-reading = k .crate-reading; lcp-id = k .lcp-id; ipv4cp-id = k .ipv4cp-id; pap-id = k .pap-id; credentials = k .credentials })
-    (λ l rx bs k. lasting-by (reader.consumed (heldBy l rx) bs .now .reader) (l .ppp) (consumed-crate (heldBy l rx) bs (k .crate-reading)) (lasting-held k))
+    record {
+      new = λ name password c p k b d x. lasting-by (chosen-lasts .new name password c p k b d x) (held-lasts .new name password c p k b d x);
+      «open» = λ l k x. lasting-by (chosen-lasts .«open» l (k .plain, k .crate-reading) x) (held-lasts .«open» l (lasting-held k) x);
+      consume = λ l rx bs k x. lasting-by (chosen-lasts .consume l rx bs (k .plain, k .crate-reading) x) (held-lasts .consume l rx bs (lasting-held k) x);
+      poll = λ l tx rx b k x. lasting-by (chosen-lasts .poll l tx rx b (k .plain, k .crate-reading) x) (held-lasts .poll l tx rx b (lasting-held k) x);
+    }
 
 whole-lasts : Lasts (λ l. Whole (l .ppp .pap))
 whole-lasts =
     lasts-by (λ l. Whole (l .ppp .pap)) (λ r p w. w) (λ r p w. phase-whole p w) (λ r p pkt _ _ _ w. received-whole p pkt w)
-    (λ name password _ _ h.
+    (λ name password c _ _ h.
     let both = name ++ password in
     record {
       array = omega (arith, length-append name password, h, length-append both (replicate (120 - length both) 0), length-replicate {A = ℕ} (120 - length both) 0);
@@ -203,7 +196,7 @@ whole-lasts =
 
 framed-lasts : Lasts (λ l. Framed (l .«frame_reader»))
 framed-lasts =
-    lasts-by (λ l. Framed (l .«frame_reader»)) (λ r p _ e. absurd (false≢true e)) (λ r p k. k) (λ r p pkt _ _ _ k. k) (λ name password _ _ _. fresh-framed Crate) (λ r p k. k)
+    lasts-by (λ l. Framed (l .«frame_reader»)) (λ r p _ e. absurd (false≢true e)) (λ r p k. k) (λ r p pkt _ _ _ k. k) (λ name password c _ _ _. fresh-framed (c .reading)) (λ r p k. k)
     (λ l rx bs k. consumed-framed (heldBy l rx) bs k)
 
 pub all-last : AllLast

@@ -52,7 +52,7 @@ module _ (l : PPPoS) (tx rx : List ℕ) (d : InDomain l rx) (framed : Framed (l 
   between e =
       let come : theirs.handleInput (viewLink l) tx rx ≡ returns (theirs.goesOn (viewLink l) (newWriter tx) rx) = rw (receive-is (l .«frame_reader») framed, e) refl in
       rw (poll-is (viewLink l) tx rx come, e, le-ltb (length rx) (l .«frame_reader» .len) (d .lent .room))
-      (rest-same l tx rx (l .«frame_reader») (l .ppp) (lasting-held (d .lasting)) (λ h. ready (reached-sound h)) [] false 0 (omega arith) (d .lasting .crate-reading) come)
+      (rest-same l tx rx (l .«frame_reader») (l .ppp) (lasting-held (d .lasting)) (λ _ h. ready (reached-sound h)) [] false 0 (omega arith) (d .lasting .crate-reading) come)
 
   -- a packet is fetched
   module _ (e : isComplete (l .«frame_reader» .state) ≡ true) where

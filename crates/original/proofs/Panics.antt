@@ -25,6 +25,7 @@ use Rattle.link.specs.Refusal.{outcomeNumber}
 use Rattle.link.specs.declared.refusal.Refusal.the-variants.{Framing}
 use Rattle.link.specs.declared.refusal.Outcome.{Outcome}
 use Rattle.link.specs.declared.refusal.Outcome.the-variants.{Refused}
+use Rattle.link.specs.declared.choices.Choices.{Choices}
 use Rattle.link.specs.declared.pppos.PPPoS.{PPPoS}
 use Rattle.link.specs.declared.pppos.PPPoSAction.{PPPoSAction}
 use Rattle.link.proofs.Polling.{poll-short}
@@ -128,12 +129,12 @@ first-panic {l} h {r} run {c} {a} {l′} call {place} e =
         → _>>=_ {B = Answered} x (λ p. returns (record { answer = history.acted (p .action) (p .tx) (p .rx); link = p .link })) ≡ panics place → Stopped l place (history.polls tx rx) (history.acted a tx′ rx′) l′
     polled x (same s) e = apart cc
     polled x (refuses {place = p} s) e = let z : p ≡ place = cc in stopped (rw z at s)
-    polled x (opens unreached b m w f k i) e = absurd (unreached (history-reached h))
+    polled x (opens unreached b m w f k i) e = absurd (unreached (h .choices) (history-reached h))
 
     by-call : {c : Call} {a : OurAnswer} {l′ : PPPoS} → Called l c a l′ → callOf (viewLink l) c ≡ panics place → Stopped l place c a l′
     by-call (history.by-open c) e = apart cc
     by-call history.by-status e = apart cc
-    by-call (history.by-consume {bs} {rx} b lent c) e = let z = same-link .consume l rx bs (history-kept h .lasting .crate-reading) lent b c .1 in apart cc
+    by-call (history.by-consume {bs} {rx} b lent c) e = let z = same-link .consume l rx bs (history-kept h .lasting .plain) (history-kept h .lasting .crate-reading) lent b c .1 in apart cc
     by-call (history.by-poll {tx} {rx} lent c) e =
         polled (theirs.poll (viewLink l) tx rx) (polls-same l tx rx (record { lasting = history-kept h .lasting; lent = lent }) (history-kept h .framed) c) e
     by-call (history.by-send b c) e = apart cc
@@ -141,8 +142,8 @@ first-panic {l} h {r} run {c} {a} {l′} call {place} e =
 pub at-panics : AtPanics
 at-panics =
     record {
-      new-over = λ name password h c. new-over name password c h;
-      new-panics = λ name password c e. new-panics name password c e;
+      new-over = λ name password k _ crate h c. new-over name password k c crate h;
+      new-panics = λ name password k _ c e. new-panics name password k c e;
       poll = polls-same;
       unframed = poll-unframed;
       unfetched = unfetched;
@@ -175,8 +176,8 @@ refused-numbered : {l : PPPoS} {tx rx : List ℕ} {place : Place} {p : Poll} →
 refused-numbered (full n e) = lit< tt
 refused-numbered (dropped why n e) = rw n at (numbered why)
 
-never : (l : PPPoS) (tx rx : List ℕ) → Reached l → InDomain l rx → {place : Place} → Asserts place → theirs.poll (viewLink l) tx rx ≡ panics place → ⊥
-never l tx rx h d {place} a e =
+never : {c : Choices} (l : PPPoS) (tx rx : List ℕ) → Reached c l → InDomain l rx → {place : Place} → Asserts place → theirs.poll (viewLink l) tx rx ≡ panics place → ⊥
+never {c = c} l tx rx h d {place} a e =
     by-framed (l .«frame_reader») (λ framed. go (theirs.poll (viewLink l) tx rx) e (same-poll l tx rx d framed))
     (λ t k. let u = poll-unframed l tx rx (d .lent .room) t k in
     let z : place ≡ unframedAt (l .«frame_reader» .len) = cc in
@@ -185,7 +186,7 @@ never l tx rx h d {place} a e =
     go : (x : Run theirs.Poll) → x ≡ panics place → SamePoll l tx rx x (pollLink l tx rx) → ⊥
     go x k (same s) = apart cc
     go x k (refuses {place = p} s) = let z : p ≡ place = cc in absurd (omega (arith, unnumbered a, refused-numbered s, ap numberAt z))
-    go x k (opens unreached b m w f i j) = unreached h
+    go x k (opens unreached b m w f i j) = unreached c h
 
 pub never-asserts : NeverAsserts
 never-asserts = record { poll = never }

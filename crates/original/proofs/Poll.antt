@@ -21,6 +21,7 @@ use Rattle.phases.proofs.Sounds.{Ready}
 use Rattle.link.specs.Frames.{frames}
 use Rattle.link.specs.Link as ours
 use Rattle.link.specs.Reached.{Reached}
+use Rattle.link.specs.declared.choices.Choices.{Choices}
 use Rattle.link.specs.declared.pppos.PPPoS.{PPPoS}
 use Rattle.link.proofs.Sending.{frames-append}
 use Rattle.original.specs.Run.{Place, Run, returns, panics, _>>=_}
@@ -49,7 +50,7 @@ unfolding theirs.pollRest
 rest-stops m w b e = rw e refl
 
 -- the frames of pre are written; q is the record before the phase step, and r the reader
-module _ (l : PPPoS) (tx rx : List ℕ) (r : FrameReader) (q : Ppp) (held : Held q) (ready : Reached l → Ready q) (pre : List (List ℕ)) (e : Bool) (c : ℕ) (fits : length (frames pre) ≤ length tx) (crate : r .reading ≡ Crate) where
+module _ (l : PPPoS) (tx rx : List ℕ) (r : FrameReader) (q : Ppp) (held : Held q) (ready : (k : Choices) → Reached k l → Ready q) (pre : List (List ℕ)) (e : Bool) (c : ℕ) (fits : length (frames pre) ≤ length tx) (crate : r .reading ≡ Crate) where
   abbrev turn : PppTurn
   turn = record { outcome = Done; echoed = e; ppp = phaseOf q .ppp; sent = pre ++ phaseOf q .sent }
 
@@ -83,4 +84,4 @@ module _ (l : PPPoS) (tx rx : List ℕ) (r : FrameReader) (q : Ppp) (held : Held
       go : (x : Run ppp.Polled) → ppp.pollPpp (viewPpp q) ≡ x → opening.SamePhase q x
           → SamePoll l tx rx (theirs.pollRest (viewLink (ours.linkOf r q)) w (ours.echoedIn e rx)) (ours.answered l r turn tx rx)
       go x k (opening.same {s} steps) = ran (viewPpp q) s k steps
-      go x k (opening.asserts {place} unready a {s} run steps) = rw (rest-stops (viewLink (ours.linkOf r q)) w (ours.echoedIn e rx) k) (opens (λ h. unready (ready h)) a (viewLink (ours.linkOf r q)) w (ours.echoedIn e rx) come (ran (asIfClosed a (viewPpp q)) s run steps))
+      go x k (opening.asserts {place} unready a {s} run steps) = rw (rest-stops (viewLink (ours.linkOf r q)) w (ours.echoedIn e rx) k) (opens (λ k h. unready (ready k h)) a (viewLink (ours.linkOf r q)) w (ours.echoedIn e rx) come (ran (asIfClosed a (viewPpp q)) s run steps))

@@ -113,7 +113,7 @@ module _ (l : PPPoS) (tx rx : List ℕ) (held : received.Held (l .ppp)) (bytes :
           wrote v all
           ∙ ap (λ (x : ppp.Ppp). returns (theirs.goesOn (theirs.withPpp mid x) v (take 1 rx ++ (r .pkt ++ drop to rx)))) a
           ∙ ap (λ (x : List ℕ). returns (theirs.goesOn (theirs.withPpp mid (viewPpp (t .ppp))) v x)) back in
-          rw (poll-is (viewLink l) tx rx here, turn-done (l .ppp) pkt o) (rest-same l tx rx next (t .ppp) h (λ z. ready-received pkt (reached-sound z)) (t .sent) (t .echoed) (crcAfter 0 (t .sent)) fits crate here))
+          rw (poll-is (viewLink l) tx rx here, turn-done (l .ppp) pkt o) (rest-same l tx rx next (t .ppp) h (λ _ z. ready-received pkt (reached-sound z)) (t .sent) (t .echoed) (crcAfter 0 (t .sent)) fits crate here))
           (λ over.
           let g = frames (phaseOf (t .ppp) .sent) in
           let none : theirs.transmitAll (newWriter tx) (r .tx) ≡ panics replyFull = wrote-all ∙ rw (lt-leb (length f) (length tx) over) refl in

@@ -22,6 +22,7 @@ use Rattle.framing.specs.declared.frame_reader.Got.the-variants.{Packet, Nothin
 use Rattle.framing.specs.declared.refusal.Outcome.{Outcome}
 use Rattle.framing.proofs.OneAnswer.{gots-differ}
 use Rattle.framing.proofs.Reader.{Kept, step-kept, fed-left-le, consumed-fed, receives-done}
+use Rattle.framing.proofs.SameReading.{step-reading, fed-reading}
 use Rattle.original.specs.Run.{Run, returns, _>>=_}
 use Rattle.original.specs.Crc.{crc16}
 use Rattle.original.specs.Framing.{Fed, feedIn, endOf, fedTo, storeOf, usizeMax, isComplete, consumeFrom, consume, nothing, range, receive, Address, Complete, Consumed}
@@ -95,15 +96,6 @@ module _ (r : reader.FrameReader) (buf : List ℕ) (within : r .len ≤ length b
 
 -- ---- what a byte keeps
 
-crate-kept : (s : reading.State) (h : ours.Held) (b : ℕ) → h .reader .reading ≡ Crate → ours.stepBy s h b .reader .reading ≡ Crate
-crate-kept reading.the-variants.Start h b e = e
-crate-kept reading.the-variants.Address h b e = e
-crate-kept reading.the-variants.Data h b e =
-    let P : ours.Held → Type 0 = λ x. x .reader .reading ≡ Crate in
-    cond-all P (eqb b 0x7E) (cond-all (λ (x : reader.FrameReader). x .reading ≡ Crate) (ours.isGood (take (h .reader .len) (h .buf))) e e)
-    (cond-all P (ours.marks (h .reader) b) e (cond-all P (ltb (h .reader .len) (length (h .buf))) e e))
-crate-kept reading.the-variants.Complete h b e = e
-
 bytes-kept : (s : reading.State) (h : ours.Held) (b : ℕ) → Bytes (h .buf) → b < 256 → Bytes (ours.stepBy s h b .buf)
 bytes-kept reading.the-variants.Start h b k l = k
 bytes-kept reading.the-variants.Address h b k l = k
@@ -120,7 +112,7 @@ unfolding ours.step
 step-steady n s b l p =
     record {
       kept = step-kept n s b (p .kept);
-      crate-reading = crate-kept (s .reader .state) s b (p .crate-reading);
+      crate-reading = step-reading s b ∙ p .crate-reading;
       bytes = bytes-kept (s .reader .state) s b (p .bytes) l;
     }
 
@@ -157,11 +149,6 @@ fed-is n i s (b ∷ bs) big p h =
 
 -- ---- the calls
 
-pub fed-crate : (s : ours.Held) (bs : List ℕ) → s .reader .reading ≡ Crate → ours.fed s bs .now .reader .reading ≡ Crate
-unfolding ours.fed ours.step
-fed-crate s [] e = e
-fed-crate s (b ∷ bs) e = cond-all (λ (f : ours.Fed). f .now .reader .reading ≡ Crate) (ours.full s) e (fed-crate (ours.step s b) bs (crate-kept (s .reader .state) s b e))
-
 -- what our consume promises, in crate reading, is what the original does
 module _ (r : reader.FrameReader) (buf bs : List ℕ) (crate : r .reading ≡ Crate) (room : r .len ≤ length buf) (big : length buf < 2 ^ 64) (bytes : Bytes buf) (given : Bytes bs) where
   pub same-consume : {o : Outcome} {k : ℕ} {r′ : reader.FrameReader} {buf′ : List ℕ} → ours.Consumes (ours.held r buf) bs o k r′ buf′
@@ -172,7 +159,7 @@ module _ (r : reader.FrameReader) (buf bs : List ℕ) (crate : r .reading ≡ Cr
         c .number ∙ rw (le-ltb (length buf) (r .len) room) refl,
         fed-is (length buf) 0 (ours.held r buf) bs big steady given
             ∙ rw (c .count, c .reader, c .bytes, now) (let e : 0 + (length bs - length (ours.fed (ours.held r buf) bs .left)) ≡ length bs - length (ours.fed (ours.held r buf) bs .left) = omega arith in rw e refl),
-        rw (c .reader, now) (fed-crate (ours.held r buf) bs crate),
+        rw (c .reader, now) (fed-reading (ours.held r buf) bs ∙ crate),
       )
 
 -- what our receive promises: the packet's range, or nothing; a complete frame with under three bytes kept is refusal 5 here

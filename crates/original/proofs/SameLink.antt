@@ -79,10 +79,10 @@ same-framing =
 pub same-link : SameLink
 same-link =
     record {
-      new = λ name password h c. new-fits name password c h;
+      new = λ name password k _ crate h c. new-fits name password k c crate h;
       «open» = same-open;
       status = same-status;
       consume = same-consume-link;
       poll = polls-domain;
-      send = same-send;
+      send = λ l pkt tx _ bytes c. same-send l pkt tx bytes c;
     }

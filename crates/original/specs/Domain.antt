@@ -5,19 +5,21 @@ use mathlib.Core.List.{List}
 use Prim.Native.Nat.{ℕ, _+_, _^_, _≤_, _<_}
 use lib.ListN.{length}
 use Rattle.laws.specs.Each.{Bytes}
-use Rattle.framing.specs.Reader.{isComplete, freshReader}
+use Rattle.framing.specs.Reader.{isComplete}
 use Rattle.framing.specs.declared.frame_reader.FrameReader.{FrameReader}
 use Rattle.framing.specs.declared.frame_reader.Reading.the-variants.{Crate}
 use Rattle.negotiation.specs.declared.pap.Pap.{Pap}
-use Rattle.phases.specs.Phases.{newOf, openOf}
-use Rattle.link.specs.Link.{Changes, Consumes, pollLink, Polls}
+use Rattle.link.specs.Choices.{choicesOf, Plain}
+use Rattle.link.specs.Link.{Makes, Opens, Consumes, pollLink, Polls}
 use Rattle.link.specs.declared.refusal.Outcome.{Outcome}
+use Rattle.link.specs.declared.choices.Choices.{Choices}
 use Rattle.link.specs.declared.pppos.PPPoS.{PPPoS}
 use Rattle.link.specs.declared.pppos.PPPoSAction.{PPPoSAction}
 
--- a link in crate reading, with ids and credentials that are bytes
+-- a link that is plain and in crate reading, with ids and credentials that are bytes
 pub record Lasting (l : PPPoS) : Type 0 where
-  pub crate-reading : l .«frame_reader» .reading ≡ Crate
+  pub plain : Plain (choicesOf l)
+  pub crate-reading : choicesOf l .reading ≡ Crate
   pub lcp-id : l .ppp .lcp .id < 256
   pub ipv4cp-id : l .ppp .ipv4cp .id < 256
   pub pap-id : l .ppp .pap .id < 256
@@ -44,10 +46,10 @@ pub record Whole (p : Pap) : Type 0 where
   pub array : length (p .bytes) ≡ 120
   pub fits : p .«username_len» + p .«password_len» ≤ 120
 
--- P holds of new's link and survives every call, refusals included, whatever bytes are lent; send and status leave the link
+-- P holds of new's link, made with plain choices and in crate reading, and survives every call, refusals included, whatever bytes are lent; send and status leave the link
 pub record Lasts (P : PPPoS → Type 0) : Type 0 where
-  pub new : (name password : List ℕ) → Bytes name → Bytes password → {o : Outcome} {l : PPPoS} → Changes (newOf name password) (freshReader Crate) o l → P l
-  pub «open» : (l : PPPoS) → P l → {o : Outcome} {l′ : PPPoS} → Changes (openOf (l .ppp)) (l .«frame_reader») o l′ → P l′
+  pub new : (name password : List ℕ) (c : Choices) → Plain c → c .reading ≡ Crate → Bytes name → Bytes password → {o : Outcome} {l : PPPoS} → Makes name password c o l → P l
+  pub «open» : (l : PPPoS) → P l → {o : Outcome} {l′ : PPPoS} → Opens l o l′ → P l′
   pub consume : (l : PPPoS) (rx bs : List ℕ) → P l → {o : Outcome} {n : ℕ} {l′ : PPPoS} {rx′ : List ℕ} → Consumes l rx bs o n l′ rx′ → P l′
   pub poll : (l : PPPoS) (tx rx : List ℕ) → Bytes rx → P l → {a : PPPoSAction} {l′ : PPPoS} {tx′ rx′ : List ℕ} → Polls (pollLink l tx rx) a l′ tx′ rx′ → P l′
 

@@ -1,21 +1,22 @@
--- Demand 2 over histories: any calls on a fresh link in crate reading, one after the other, answer, keep and write what the original's do.
+-- Demand 2 over histories: any calls on a fresh link, plain and in crate reading, one after the other, answer, keep and write what the original's do.
 use mathlib.Core.Path.{_≡_}
 use mathlib.Core.Bool.{Bool, true, false, cond}
 use mathlib.Core.List.{List, [], _∷_, map}
 use Prim.Native.Nat.{ℕ, _+_, _≤_}
 use lib.ListN.{length}
 use Rattle.laws.specs.Each.{Bytes}
-use Rattle.framing.specs.Reader.{freshReader}
 use Rattle.framing.specs.declared.refusal.Refusal.the-variants.{BufferFull}
 use Rattle.framing.specs.declared.frame_reader.Reading.the-variants.{Crate}
 use Rattle.options.specs.declared.refusal.Refusal.the-variants.{NotDead}
-use Rattle.phases.specs.Phases.{newOf, openOf, statusOf}
+use Rattle.phases.specs.Phases.{statusOf}
 use Rattle.phases.specs.declared.ppp.Status as ours
-use Rattle.link.specs.Link.{Changes, Consumes, pollLink, Polls, Sends}
+use Rattle.link.specs.Choices.{Plain}
+use Rattle.link.specs.Link.{Makes, Opens, Consumes, pollLink, Polls, Sends}
 use Rattle.link.specs.declared.pppos.PPPoSAction.{PPPoSAction}
 use Rattle.link.specs.declared.refusal.Refusal.the-variants.{Framing, Negotiation}
 use Rattle.link.specs.declared.refusal.Outcome.{Outcome}
 use Rattle.link.specs.declared.refusal.Outcome.the-variants.{Done, Refused}
+use Rattle.link.specs.declared.choices.Choices.{Choices}
 use Rattle.link.specs.declared.pppos.PPPoS.{PPPoS}
 use Rattle.original.specs.Run.{Run, returns, _>>=_, Result, ok, err}
 use Rattle.original.specs.Framing.{Wrote}
@@ -93,7 +94,7 @@ asAnswer (sent err tx) = sent (Refused (Framing BufferFull)) 0 tx
 
 -- one call by its contract, in the domain: what it is handed and lent are bytes, and the receive buffer has what the link keeps
 pub data Called (l : PPPoS) : Call → OurAnswer → PPPoS → Type 0 where
-  by-open : {o : Outcome} {l′ : PPPoS} → Changes (openOf (l .ppp)) (l .«frame_reader») o l′ → Called l opens (opened o) l′
+  by-open : {o : Outcome} {l′ : PPPoS} → Opens l o l′ → Called l opens (opened o) l′
   by-status : Called l asks (showed (statusOf (l .ppp))) l
   by-consume : {bs rx : List ℕ} {o : Outcome} {n : ℕ} {l′ : PPPoS} {rx′ : List ℕ} → Bytes bs → Lent l rx → Consumes l rx bs o n l′ rx′ → Called l (consumes bs rx) (took o n rx′) l′
   by-poll : {tx rx : List ℕ} {a : PPPoSAction} {l′ : PPPoS} {tx′ rx′ : List ℕ} → Lent l rx → Polls (pollLink l tx rx) a l′ tx′ rx′ → Called l (polls tx rx) (acted a tx′ rx′) l′
@@ -108,9 +109,12 @@ pub record History (name password : List ℕ) (cs : List Call) (xs : List OurAns
   pub name-bytes : Bytes name
   pub password-bytes : Bytes password
   pub fits : length name + length password ≤ 120
+  pub choices : Choices
+  pub plain : Plain choices
+  pub crate-reading : choices .reading ≡ Crate
   pub fresh : PPPoS
   pub outcome : Outcome
-  pub new : Changes (newOf name password) (freshReader Crate) outcome fresh
+  pub new : Makes name password choices outcome fresh
   pub calls : Calls fresh cs xs l
 
 -- ---- the claim

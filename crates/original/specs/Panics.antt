@@ -5,7 +5,7 @@ use mathlib.Core.List.{List, [], _∷_}
 use Prim.Native.Nat.{ℕ, _+_, _≤_, _<_}
 use lib.Dec.{ltb}
 use lib.ListN.{length, getD}
-use Rattle.framing.specs.Reader.{isComplete, fetched, freshReader, gotNumber, Receives}
+use Rattle.framing.specs.Reader.{isComplete, fetched, gotNumber, Receives}
 use Rattle.framing.specs.declared.frame_reader.FrameReader as reader
 use Rattle.framing.specs.declared.frame_reader.Got.{Got}
 use Rattle.framing.specs.declared.frame_reader.State.the-variants.{Data}
@@ -14,13 +14,14 @@ use Rattle.framing.specs.declared.refusal.Refusal.the-variants.{BufferShort, Fr
 use Rattle.options.specs.Refusal.{numberOf}
 use Rattle.options.specs.declared.refusal.Refusal.{Refusal}
 use Rattle.options.specs.declared.refusal.Refusal.the-variants.{CredentialsLong}
-use Rattle.phases.specs.Phases.{newOf}
-use Rattle.link.specs.Link.{linkOf, Changes, Consumes, Poll, declined, pollLink, Polls}
+use Rattle.link.specs.Choices.{Plain}
+use Rattle.link.specs.Link.{linkOf, Makes, Consumes, Poll, declined, pollLink, Polls}
 use Rattle.link.specs.Reached.{Reached}
 use Rattle.link.specs.Refusal as link
 use Rattle.link.specs.declared.refusal.Refusal.the-variants.{Framing, Negotiation, FramesFull}
 use Rattle.link.specs.declared.refusal.Outcome.{Outcome}
 use Rattle.link.specs.declared.refusal.Outcome.the-variants.{Refused}
+use Rattle.link.specs.declared.choices.Choices.{Choices}
 use Rattle.link.specs.declared.pppos.PPPoS.{PPPoS}
 use Rattle.link.specs.declared.pppos.PPPoSAction.{PPPoSAction}
 use Rattle.original.specs.Run.{Run, returns, panics, Place, readerLen, readerSlice, optionLong, fsmOpen, echoCode, notClosed, requestId, packetShort, optionsCut, requestMany, ownMany, nameLong, passwordLong, papOpen, papSlice, receivedSlice, receivedIp, pollOrder, pollRange, pollSlice, replyLong, replyFull}
@@ -83,7 +84,7 @@ pub data SamePoll (l : PPPoS) (tx rx : List ℕ) : Run theirs.Poll → Poll → 
   same : {o : theirs.Poll} {p : Poll} → SamePolled o (p .action) (p .link) (p .tx) (p .rx) → SamePoll l tx rx (returns o) p
   refuses : {place : Place} {p : Poll} → Refuses l tx rx place p → SamePoll l tx rx (panics place) p
   -- an assert of open, of a link that no calls reach: the original has come to link m, writer w and buffer b, and ours is what it does from there as if Closed
-  opens : {place : Place} {p : Poll} → (Reached l → ⊥) → (a : Asserts place) (m : theirs.PPPoS) (w : FrameWriter) (b : List ℕ) → theirs.handleInput (viewLink l) tx rx ≡ returns (theirs.goesOn m w b)
+  opens : {place : Place} {p : Poll} → ((c : Choices) → Reached c l → ⊥) → (a : Asserts place) (m : theirs.PPPoS) (w : FrameWriter) (b : List ℕ) → theirs.handleInput (viewLink l) tx rx ≡ returns (theirs.goesOn m w b)
       → SamePoll l tx rx (theirs.pollRest (theirs.withPpp m (asIfClosed a (m .ppp))) w b) p → SamePoll l tx rx (panics place) p
 
 -- a complete frame with under three bytes kept: `len - 2` of under two, or the range 1..0
@@ -100,9 +101,9 @@ pub data Stopped (l : PPPoS) (place : Place) : Call → OurAnswer → PPPoS → 
 
 pub record AtPanics : Type 0 where
   -- refusal 4, and a fresh link with both credentials empty, above 120 bytes together, also where the original panics
-  pub new-over : (name password : List ℕ) → 120 < length name + length password → {o : Outcome} {l : PPPoS} → Changes (newOf name password) (freshReader Crate) o l
+  pub new-over : (name password : List ℕ) (c : Choices) → Plain c → c .reading ≡ Crate → 120 < length name + length password → {o : Outcome} {l : PPPoS} → Makes name password c o l
       → (o ≡ Refused (Negotiation CredentialsLong)) × (theirs.newLink [] [] ≡ returns (viewLink l)) × (l .«frame_reader» .reading ≡ Crate)
-  pub new-panics : (name password : List ℕ) {o : Outcome} {l : PPPoS} → Changes (newOf name password) (freshReader Crate) o l
+  pub new-panics : (name password : List ℕ) (c : Choices) → Plain c → {o : Outcome} {l : PPPoS} → Makes name password c o l
       → {place : Place} → theirs.newLink name password ≡ panics place → link.outcomeNumber o ≡ numberAt place
   pub poll : (l : PPPoS) (tx rx : List ℕ) → InDomain l rx → Framed (l .«frame_reader») → {a : PPPoSAction} {l′ : PPPoS} {tx′ rx′ : List ℕ} → Polls (pollLink l tx rx) a l′ tx′ rx′
       → SamePoll l tx rx (theirs.poll (viewLink l) tx rx) (record { action = a; link = l′; tx = tx′; rx = rx′ })
@@ -130,4 +131,4 @@ pub record AtPanics : Type 0 where
 
 -- no link that calls reach meets an assert of open
 pub record NeverAsserts : Type 0 where
-  pub poll : (l : PPPoS) (tx rx : List ℕ) → Reached l → InDomain l rx → {place : Place} → Asserts place → theirs.poll (viewLink l) tx rx ≡ panics place → ⊥
+  pub poll : {c : Choices} (l : PPPoS) (tx rx : List ℕ) → Reached c l → InDomain l rx → {place : Place} → Asserts place → theirs.poll (viewLink l) tx rx ≡ panics place → ⊥

@@ -5,18 +5,17 @@ use mathlib.Core.List.{List, _++_}
 use Prim.Native.Nat.{ℕ}
 use lib.ListN.{length, drop}
 use Rattle.framing.specs.Reader.{freshReader}
-use Rattle.framing.specs.declared.frame_reader.Reading.{Reading}
-use Rattle.phases.specs.Phases.{openOf, newOf}
 use Rattle.phases.specs.declared.ppp.Status.{Status}
 use Rattle.framing.specs.Refusal as framing
 use Rattle.framing.specs.declared.refusal.Outcome as framed
 use Rattle.link.specs.Refusal.{outcomeNumber}
-use Rattle.link.specs.Link.{linkOf, Changes, Consumes, pollLink, Polls, actionNumber, Sends, transmitted}
+use Rattle.link.specs.Link.{linkOf, Makes, Opens, Consumes, pollLink, Polls, actionNumber, Sends, transmitted}
 use Rattle.status_lines.specs.Lines.{linesOf, Shows}
 use Rattle.refusals.specs.Rows.{Exactly}
 use Rattle.refusals.specs.Framing.{consumeRows}
 use Rattle.refusals.specs.Table.{emptyLink, newRows, openRows, sendRows, linesRows, pollRows}
 use Rattle.link.specs.declared.refusal.Outcome.{Outcome}
+use Rattle.link.specs.declared.choices.Choices.{Choices}
 use Rattle.link.specs.declared.pppos.PPPoS.{PPPoS}
 use Rattle.link.specs.declared.pppos.PPPoSAction.{PPPoSAction}
 use Rattle.refusals.proofs.Rows.{first-exactly}
@@ -33,9 +32,9 @@ pub record PollHolds (l : PPPoS) (rx : List ℕ) : Type 0 where
 
 -- each call as its contract has it
 pub record TableHolds : Type 0 where
-  pub new : (name password : List ℕ) (k : Reading) {o : Outcome} {l : PPPoS} → Changes (newOf name password) (freshReader k) o l
-      → Exactly ⊥ (newRows name password (emptyLink k)) (outcomeNumber o) l
-  pub «open» : (l : PPPoS) {o : Outcome} {l′ : PPPoS} → Changes (openOf (l .ppp)) (l .«frame_reader») o l′
+  pub new : (name password : List ℕ) (c : Choices) {o : Outcome} {l : PPPoS} → Makes name password c o l
+      → Exactly ⊥ (newRows name password (emptyLink c)) (outcomeNumber o) l
+  pub «open» : (l : PPPoS) {o : Outcome} {l′ : PPPoS} → Opens l o l′
       → Exactly ⊥ (openRows (l .ppp .phase) l) (outcomeNumber o) l′
   pub consume : (l : PPPoS) (rx bs : List ℕ) {o : Outcome} {n : ℕ} {l′ : PPPoS} {rx′ : List ℕ} → Consumes l rx bs o n l′ rx′
       → Exactly ⊥ (consumeRows (l .«frame_reader» .len) l rx) (outcomeNumber o) (record { count = n; kept = l′; rx = rx′ })
@@ -56,7 +55,7 @@ poll-holds l rx =
 pub exactly : TableHolds
 exactly =
     record {
-      new = λ name password k c. first-exactly _ _ (newRows name password (emptyLink k)) (new-first name password (emptyLink k) (c .number) (λ e. c .link ∙ ap (linkOf (freshReader k)) e)) refl;
+      new = λ name password c m. first-exactly _ _ (newRows name password (emptyLink c)) (new-first name password (emptyLink c) (m .number) (λ e. m .link ∙ ap (linkOf (freshReader (c .reading))) e)) refl;
       «open» = λ l c. first-exactly _ _ (openRows (l .ppp .phase) l) (open-first (l .ppp) l (c .number) (λ e. c .link ∙ ap (linkOf (l .«frame_reader»)) e)) refl;
       consume = λ l rx bs c. first-exactly _ _ (consumeRows (l .«frame_reader» .len) l rx) (consume-first l rx bs c) refl;
       poll = poll-holds;

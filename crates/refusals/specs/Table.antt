@@ -6,7 +6,6 @@ use mathlib.Core.Bool.{false}
 use mathlib.Core.List.{List, [], _∷_, _++_}
 use Prim.Native.Nat.{ℕ, _+_, _-_, _<_}
 use lib.ListN.{length, take, drop, replicate}
-use Rattle.framing.specs.declared.frame_reader.Reading.{Reading}
 use Rattle.framing.specs.declared.frame_reader.State.the-variants.{Start, Complete}
 use Rattle.options.specs.declared.lcp.AuthType.the-variants.{None}
 use Rattle.negotiation.specs.declared.pap.PapState.the-variants as papState
@@ -14,6 +13,7 @@ use Rattle.negotiation.specs.declared.states.State.the-variants.{Closed}
 use Rattle.phases.specs.declared.ppp.Phase.{Phase}
 use Rattle.phases.specs.declared.ppp.Phase.the-variants.{Dead}
 use Rattle.phases.specs.declared.ppp.Ppp.{Ppp}
+use Rattle.link.specs.declared.choices.Choices.{Choices}
 use Rattle.link.specs.declared.pppos.PPPoS.{PPPoS}
 use Rattle.refusals.specs.Rows.{Row, row}
 use Rattle.refusals.specs.Framing.{Wrote, encodeRows, movedOn}
@@ -44,8 +44,8 @@ emptyPpp =
     }
 
 -- a fresh link with both empty, in the reading asked for
-abbrev pub emptyLink : Reading → PPPoS
-emptyLink k = record { «frame_reader» = record { state = Start; escape = false; len = 0; reading = k }; ppp = emptyPpp }
+abbrev pub emptyLink : Choices → PPPoS
+emptyLink c = record { «frame_reader» = record { state = Start; escape = false; len = 0; reading = c .reading }; ppp = emptyPpp }
 
 -- 4: name and password above 120 together | a fresh link with both empty
 abbrev pub newRows : {A : Type 0} → List ℕ → List ℕ → A → List (Row A)

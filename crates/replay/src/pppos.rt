@@ -15,6 +15,7 @@ use crate::world::front;
 use crate::world::given;
 use crate::world::lent;
 use framing::frame_reader::Reading;
+use link::choices::Choices;
 use link::pppos::PPPoS;
 use link::pppos::PPPoSAction;
 use link::pppos::ip_packet;
@@ -34,7 +35,13 @@ fn refusal(o: Outcome) -> usize {
 }
 
 pub(crate) fn fresh() -> PPPoS {
-    let c = PPPoS::new(b"", b"", Reading::Crate);
+    let c = PPPoS::new(
+        b"",
+        b"",
+        Choices {
+            reading: Reading::Crate,
+        },
+    );
     c.link
 }
 
@@ -46,7 +53,13 @@ fn verdict(o: Outcome, at: usize, out: &mut [u8]) {
 fn made(c: Call, line: &[u8], out: &mut [u8]) -> PPPoS {
     let name = given(line, c.a_at, c.a);
     let pass = given(line, c.b_at, c.b);
-    let r = PPPoS::new(name, pass, reading(c.c));
+    let r = PPPoS::new(
+        name,
+        pass,
+        Choices {
+            reading: reading(c.c),
+        },
+    );
     let o = r.outcome;
     verdict(o, c.at, out);
     r.link

@@ -3,13 +3,17 @@ use feeding::feed::feed;
 use feeding::feed::start;
 use framing::frame_reader::Reading;
 use libc::STDOUT_FILENO;
+use link::choices::Choices;
 use link::pppos::PPPoS;
 use status_lines::status::lines;
 
 fn played(bytes: &[u8]) -> PPPoS {
     let mut tx = [0u8; 795];
     let mut rx = [0u8; 1600];
-    let p = start(Reading::Crate, &mut tx, &mut rx);
+    let choices = Choices {
+        reading: Reading::Crate,
+    };
+    let p = start(choices, &mut tx, &mut rx);
     let link = p.link;
     let f = feed(link, &mut tx, &mut rx, bytes);
     f.link

@@ -4,6 +4,7 @@ use feeding::feed::start;
 use framing::frame_reader::Reading;
 use libc::STDIN_FILENO;
 use libc::STDOUT_FILENO;
+use link::choices::Choices;
 use link::pppos::PPPoS;
 use status_lines::status::lines;
 
@@ -50,7 +51,10 @@ fn show(link: PPPoS) {
 fn main() {
     let mut tx = [0u8; 795];
     let mut rx = [0u8; 1600];
-    let p = start(Reading::Crate, &mut tx, &mut rx);
+    let choices = Choices {
+        reading: Reading::Crate,
+    };
+    let p = start(choices, &mut tx, &mut rx);
     let link = p.link;
     show(take_all(link, &mut tx, &mut rx));
 }

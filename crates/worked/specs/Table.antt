@@ -58,7 +58,7 @@ k13 = 0x7E ∷ 0xFF ∷ 0x03 ∷ 0x00 ∷ 0x00 ∷ 0x7E ∷ 0xFF ∷ 0x03 ∷ 0x
 -- ---- a link, opened and polled once
 
 abbrev pub firstPoll : ℕ → Poll
-firstPoll room = pollLink (openLink (newLink [] [] Crate)) (replicate room 0) []
+firstPoll room = pollLink (openLink (newLink [] [] (record { reading = Crate }))) (replicate room 0) []
 
 -- the count of an action, and what stands there
 abbrev pub counted : PPPoSAction → ℕ

@@ -1,0 +1,43 @@
+-- What a poll leaves is one of four links: whatever holds of those holds of it.
+-- Assumes nothing.
+use mathlib.Core.Path.{_≡_}
+use mathlib.Core.Bool.{true, false}
+use mathlib.Core.List.{List}
+use Prim.Native.Nat.{ℕ, _-_}
+use lib.Dec.{ltb, leb}
+use lib.ListN.{length}
+use Rattle.laws.proofs.Cases.{cond-all, cond-by}
+use Rattle.framing.specs.Reader.{isComplete, isShort, fetched, packetOf}
+use Rattle.framing.specs.declared.frame_reader.FrameReader.{FrameReader}
+use Rattle.phases.specs.Phases.{PppTurn, pollOf, turnOf}
+use Rattle.options.specs.declared.refusal.Outcome.{Outcome}
+use Rattle.options.specs.declared.refusal.Outcome.the-variants.{Done, Refused}
+use Rattle.link.specs.Frames.{frames}
+use Rattle.link.specs.Link.{linkOf, heldBy, Poll, byOutcome, answered, isIp, packetPoll, pollLink}
+use Rattle.link.specs.declared.pppos.PPPoS.{PPPoS}
+
+module _ (P : PPPoS → Type 0) (l : PPPoS) (tx rx : List ℕ) (stays : P l) where
+  abbrev Leaves : Poll → Type 0
+  Leaves q = P (q .link)
+
+  answered-leaves : (r : FrameReader) (t : PppTurn) → P (linkOf r (l .ppp)) → P (linkOf r (t .ppp)) → Leaves (answered l r t tx rx)
+  unfolding answered
+  answered-leaves r t old new = by-outcome (t .outcome)
+    where
+      by-outcome : (o : Outcome) → Leaves (byOutcome o l r t tx rx)
+      by-outcome Done = cond-all Leaves (leb (length (frames (t .sent))) (length tx)) new stays
+      by-outcome (Refused why) = old
+
+  -- as it was, with its frame fetched, with a packet taken that is not IPv4's, with a phase step taken
+  pub poll-leaves : P (linkOf (fetched (l .«frame_reader»)) (l .ppp))
+      → (isIp (packetOf (heldBy l rx)) ≡ false → P (linkOf (fetched (l .«frame_reader»)) (turnOf (l .ppp) (packetOf (heldBy l rx)) .ppp)))
+      → P (linkOf (l .«frame_reader») (pollOf (l .ppp) .ppp)) → P (pollLink l tx rx .link)
+  unfolding pollLink packetPoll
+  poll-leaves fetches turns steps =
+      let r = l .«frame_reader» in
+      let pkt = packetOf (heldBy l rx) in
+      cond-all Leaves (isShort (heldBy l rx)) stays
+      (cond-all Leaves (isComplete (r .state))
+      (cond-all Leaves (ltb (r .len) 3) fetches
+      (cond-by Leaves (isIp pkt) (λ _. fetches) (λ other. answered-leaves (fetched r) (turnOf (l .ppp) pkt) fetches (turns other))))
+      (answered-leaves r (pollOf (l .ppp)) stays steps))
