@@ -11,13 +11,11 @@ use lib.Dec.{ltb, eqb, lit<}
 use lib.ListN.{length, drop, getD, set}
 use Rattle.laws.specs.Each.{Bytes}
 use Rattle.laws.proofs.Cases.{by-le, by-test, cond-both}
-use Rattle.options.specs.Refusal.{numberOf}
 use Rattle.options.specs.Wire.{packetOf, contentOf}
 use Rattle.options.specs.Options.{walkOf}
 use Rattle.options.specs.Proto.{protocolOf}
 use Rattle.options.specs.Reply.{freshReply}
 use Rattle.negotiation.specs.Automaton as ours
-use Rattle.options.specs.declared.refusal.Refusal.{Refusal}
 use Rattle.options.specs.declared.refusal.Refusal.the-variants.{ConfigureShort, ReplyLong}
 use Rattle.options.specs.declared.refusal.Outcome.the-variants.{Done, Refused}
 use Rattle.options.specs.declared.proto.Proto.{Proto}
@@ -33,11 +31,12 @@ use Rattle.original.specs.Run.{Place, Run, returns, panics, _>>=_}
 use Rattle.original.specs.Wire.{RawData, Options, PPP, Packet, packetLen}
 use Rattle.original.specs.Fsm as theirs
 use Rattle.original.specs.View.{viewState}
-use Rattle.original.specs.Panics.{numberAt}
+use Rattle.original.specs.Panics.{RefusedAt}
 use Rattle.original.proofs.Bytes.{each-drop}
 use Rattle.original.proofs.Frames.{Carries, Carried, none, more, carried-append}
 use Rattle.original.proofs.Walk.{parse-is, walk-bytes}
 use Rattle.original.proofs.Packets.{lists-none, carries-ppp}
+use Rattle.original.proofs.Refused.{refused-at, refused-so}
 use Rattle.original.proofs.Replies.{Stands, SameReply, SameAnswer, reply-same, SameNacks, nacks-same}
 use Rattle.original.proofs.Replies as replies
 
@@ -54,7 +53,7 @@ module _ {X P : Type 0} (T : theirs.Protocol P) (inj : X → Proto) (view : X �
     same : {h : theirs.Handled P} {t : ours.Turn} (i : ℕ) (s : State) (x : X) → i < 256 → h .fsm ≡ there i s x → t .fsm ≡ here i s x → t .outcome ≡ Done
         → h .pkt ≡ cond (t .echoed) (set pkt 2 10) pkt → (t .echoed ≡ true → 2 < length pkt) → Carried (h .tx) (t .sent) → SameTurn pkt (returns h) t
     long : {h : theirs.Handled P} {t : ours.Turn} (q : Packet) → h .tx ≡ q ∷ [] → 128 < packetLen q → t .outcome ≡ Refused ReplyLong → SameTurn pkt (returns h) t
-    stops : {p : Place} {t : ours.Turn} (why : Refusal) → numberOf why ≡ numberAt p → t .outcome ≡ Refused why → SameTurn pkt (panics p) t
+    stops : {p : Place} {t : ours.Turn} → RefusedAt p (t .outcome) → SameTurn pkt (panics p) t
 
   -- ---- what is sent
 
@@ -121,13 +120,13 @@ module _ {X P : Type 0} (T : theirs.Protocol P) (inj : X → Proto) (view : X �
         → SameTurn pkt (theirs.onConfigureNack T (there i s x) rej pkt) (ours.nackOf (here i s x) rej pkt)
     unfolding theirs.onConfigureNack ours.nackOf ours.nackWith
     on-nack i s x rej live =
-        cond-both (SameTurn pkt) {t = ltb (length pkt) 6} refl (λ _. stops ConfigureShort refl refl)
+        cond-both (SameTurn pkt) {t = ltb (length pkt) 6} refl (λ _. stops (refused-at ConfigureShort refl))
         (λ _. rw (parse-is (theirs.nackOption T rej) (view x) (drop 6 pkt)) (go _ _ (nacks-same T inj view stands rej x (walkOf (drop 6 pkt)))))
       where
         go : (r : Run P) (n : Nacked) → SameNacks T inj view stands r n
             → SameTurn pkt (r >>= λ p. theirs.afterNack T (viewState s) (theirs.withProto T (there i s x) p) pkt) (ours.unless (n .outcome) (here i s x) (ours.requested (ours.afterNacked (here i s x) (n .proto)) []))
         go r n (replies.nacked y e) = rw e (after-nack i s y live)
-        go r n (replies.refused why e f) = rw f (stops why e refl)
+        go r n (replies.refused f) = rw (f .outcome) (stops (refused-so f))
 
     after-req : (i : ℕ) (s : State) (v : verdict.Verdict) (x : X) {tx : List Packet} {ps : List (List ℕ)} → i < 256 → ours.isClosed s ≡ false → Carried tx ps
         → SameTurn pkt (theirs.afterResp T (viewState s) (eqb (ours.codeOf v) 2) (there i s x) pkt tx) (cond (ours.isOpened s) (ours.requested (here i (ours.afterReq s v) x) ps) (ours.turned (here i (ours.afterReq s v) x) ps))
@@ -171,13 +170,13 @@ module _ {X P : Type 0} (T : theirs.Protocol P) (inj : X → Proto) (view : X �
         by-le 6 (length pkt)
         (λ h. rw (le-ltb (length pkt) 6 h, le-ltb (length pkt) 4 (omega arith), parse-is (theirs.peerOption T) (record { proto = T .peerOptionsStart (view x); code = 2; opts = [] }) (drop 6 pkt), stands .start-theirs x, stands .start-ours x, third h)
         (go _ _ (reply-same T inj view stands _ _ (walkOf (drop 6 pkt)) (fresh-same (stands .started x)) (walk-bytes (drop 6 pkt) (each-drop (λ b. b < 256) 6 pkt bytes)))))
-        (λ h. rw (lt-ltb (length pkt) 6 h) (by-test (ltb (length pkt) 4) (λ t. rw t (stops ConfigureShort refl refl)) (λ t. rw t (stops ConfigureShort refl refl))))
+        (λ h. rw (lt-ltb (length pkt) 6 h) (by-test (ltb (length pkt) 4) (λ t. rw t (stops (refused-at ConfigureShort refl))) (λ t. rw t (stops (refused-at ConfigureShort refl)))))
       where
         go : (t : Run (theirs.Answer P)) (r : Reply) → SameAnswer T inj view stands t r
             → SameTurn pkt
             (t >>= (λ a. returns (reply i j s x a)) >>= λ r. theirs.afterResp T (viewState s) (theirs.isAck T (r .packet .payload)) (r .fsm) pkt (r .packet ∷ []))
             (ours.unless (r .outcome) (here i s x) (ours.repliedTurn (here i s x) j r))
-        go (returns a) r (replies.answered k) =
+        go (returns a) r (replies.on k) =
             rw (k .going, k .proto, k .case, k .code)
             (after-req i s (r .verdict) (k .x) small live (more (reply-carries j a r small′ k) none))
-        go (panics p) r (replies.refused why e f) = rw f (stops why e refl)
+        go (panics p) r (replies.off f) = rw (f .outcome) (stops (refused-so f))

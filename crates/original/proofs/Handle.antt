@@ -27,6 +27,7 @@ use Rattle.original.specs.View.{viewState}
 use Rattle.original.proofs.Bytes.{each-take, each-drop, each-get}
 use Rattle.original.proofs.Frames.{Carries, none, more}
 use Rattle.original.proofs.Packets.{bytes-be, bytes-append}
+use Rattle.original.proofs.Refused.{refused-at}
 use Rattle.original.proofs.Replies.{Stands}
 use Rattle.original.proofs.Automaton.{here, there, SameTurn, same, long, stops, plain, term-same, on-ack, on-term, on-nack, on-req}
 
@@ -76,7 +77,7 @@ module _ {X P : Type 0} (T : theirs.Protocol P) (inj : X → Proto) (view : X �
     unfolding ours.echoOf ours.ignoredTurn
     echo-same i s x small =
         cond-both (Same pkt) (opened-is s)
-        (λ _. cond-both (Same pkt) {t = ltb (length pkt) 3} refl (λ _. stops EchoEmpty refl refl)
+        (λ _. cond-both (Same pkt) {t = ltb (length pkt) 3} refl (λ _. stops (refused-at EchoEmpty refl))
         (λ u. let h = ltb-false (length pkt) 3 u in
         let q = theirs.packetOf T (Raw (drop 2 (set pkt 2 10))) in
         let size : packetLen q ≡ length pkt = rw (echo-part pkt h) (omega (arith, length-drop 3 pkt)) in
@@ -124,7 +125,7 @@ module _ {X P : Type 0} (T : theirs.Protocol P) (inj : X → Proto) (view : X �
       go true k = sym (set-append-left (take n pkt) (drop n pkt) 2 10 (k refl)) ∙ rw take-append-drop refl
       go false k = take-append-drop n pkt
   back-same n pkt r t (long q a b c) = long q a b c
-  back-same n pkt r t (stops why a b) = stops why a b
+  back-same n pkt r t (stops f) = stops f
 
   pub handle-same : (i : ℕ) (s : State) (x : X) (pkt : List ℕ) → i < 256 → Bytes pkt
       → Same pkt (theirs.handle T (there T inj view stands i s x) pkt) (ours.handleOf (here T inj view stands i s x) pkt)

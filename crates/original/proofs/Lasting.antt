@@ -114,7 +114,7 @@ received-held p pkt h bytes other done =
     go : (x : Run ppp.Received) → SameReceived pkt x (receivedOf p pkt) → Held (receivedOf p pkt .ppp)
     go x (same a b o d e c) = b
     go x (long q a b o) = absurd (true≢false (sym done ∙ ap isDone o))
-    go x (stops why a o) = absurd (true≢false (sym done ∙ ap isDone o))
+    go x (stops f) = absurd (true≢false (sym done ∙ ap isDone (f .outcome)))
 
 -- ---- a phase step
 

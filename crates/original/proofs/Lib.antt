@@ -5,6 +5,7 @@ pub mod Reader
 pub mod Frames
 pub mod Walk
 pub mod Packets
+pub mod Refused
 pub mod Replies
 pub mod Automaton
 pub mod Handle

@@ -28,6 +28,7 @@ use Rattle.original.specs.Panics.{dropped, SamePoll, same, refuses}
 use Rattle.original.proofs.Reader.{receive-is}
 use Rattle.original.proofs.Received as received
 use Rattle.original.proofs.Poll.{poll-is, rest-same}
+use Rattle.original.proofs.Refused.{refused-at}
 use Rattle.original.proofs.Polls.{mid, other-protocols, refused-is, received-same}
 
 pub lasting-held : {l : PPPoS} → Lasting l → received.Held (l .ppp)
@@ -84,7 +85,7 @@ module _ (l : PPPoS) (tx rx : List ℕ) (d : InDomain l rx) (framed : Framed (l 
         (λ h.
         let short : theirs.poll (viewLink l) tx rx ≡ panics pollSlice = poll-is (viewLink l) tx rx {x = panics pollSlice} (come ∙ rw (lt-ltb (length pkt) 2 h) refl) in
         let no : receivedOf (l .ppp) pkt .outcome ≡ Refused PacketShort = rw (lt-ltb (length pkt) 2 h) refl in
-        rw (short, mine, lt-leb 2 (length pkt) h, refused-is l (fetched (l .«frame_reader»)) tx rx pkt no) (refuses (dropped PacketShort refl refl)))
+        rw (short, mine, lt-leb 2 (length pkt) h, refused-is l (fetched (l .«frame_reader»)) tx rx pkt no) (refuses (dropped PacketShort (refused-at PacketShort refl) refl)))
 
   pub same-poll : Goal
   same-poll = by-test (isComplete (l .«frame_reader» .state)) fetches between

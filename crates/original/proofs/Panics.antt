@@ -174,7 +174,7 @@ numbered ReplyLong = lit< tt
 
 refused-numbered : {l : PPPoS} {tx rx : List ℕ} {place : Place} {p : Poll} → Refuses l tx rx place p → 0 < numberAt place
 refused-numbered (full n e) = lit< tt
-refused-numbered (dropped why n e) = rw n at (numbered why)
+refused-numbered (dropped why f e) = rw (f .number) at (numbered (f .why))
 
 never : {c : Choices} (l : PPPoS) (tx rx : List ℕ) → Reached c l → InDomain l rx → {place : Place} → Asserts place → theirs.poll (viewLink l) tx rx ≡ panics place → ⊥
 never {c = c} l tx rx h d {place} a e =

@@ -10,12 +10,10 @@ use lib.Dec.{ltb, eqb, lit<, lit≤}
 use lib.ListN.{length, drop, getD, length-append}
 use Rattle.laws.specs.Each.{Bytes}
 use Rattle.laws.proofs.Cases.{cond-both}
-use Rattle.options.specs.Refusal.{numberOf}
 use Rattle.negotiation.specs.Pap as ours
 use Rattle.options.specs.Wire.{lengthField}
-use Rattle.options.specs.declared.refusal.Refusal.{Refusal}
 use Rattle.options.specs.declared.refusal.Refusal.the-variants.{PapPast}
-use Rattle.options.specs.declared.refusal.Outcome.the-variants.{Done, Refused}
+use Rattle.options.specs.declared.refusal.Outcome.the-variants.{Done}
 use Rattle.negotiation.specs.declared.pap.Pap as pap
 use Rattle.negotiation.specs.declared.pap.PapState as papState
 use Rattle.negotiation.proofs.Paps.{credentials-short}
@@ -23,10 +21,11 @@ use Rattle.original.specs.Run.{Place, Run, returns, panics}
 use Rattle.original.specs.Wire.{PAP, Credentials, PPP, codeFrom}
 use Rattle.original.specs.Protocols as theirs
 use Rattle.original.specs.View.{viewPapState, viewPap}
-use Rattle.original.specs.Panics.{numberAt}
+use Rattle.original.specs.Panics.{RefusedAt}
 use Rattle.original.proofs.Bytes.{each-take, each-drop}
 use Rattle.original.proofs.Frames.{Carries, Carried, none, more}
 use Rattle.original.proofs.Packets.{carries-ppp, bytes-append}
+use Rattle.original.proofs.Refused.{refused-at}
 use Rattle.original.proofs.Handle.{code-is}
 
 -- what our record can hold
@@ -37,7 +36,7 @@ pub record Held (p : pap.Pap) : Type 0 where
 -- both leave the same and send the same, or the original panics where ours refuses
 pub data SamePap : Run theirs.PapHandled → ours.PapTurn → Type 0 where
   same : {h : theirs.PapHandled} {t : ours.PapTurn} → h .pap ≡ viewPap (t .pap) → Held (t .pap) → t .outcome ≡ Done → Carried (h .tx) (t .sent) → SamePap (returns h) t
-  stops : {p : Place} {t : ours.PapTurn} (why : Refusal) → numberOf why ≡ numberAt p → t .outcome ≡ Refused why → SamePap (panics p) t
+  stops : {p : Place} {t : ours.PapTurn} → RefusedAt p (t .outcome) → SamePap (panics p) t
 
 sent-is : (s : papState.PapState) → theirs.isPapSent (viewPapState s) ≡ ours.isPapSent s
 sent-is papState.the-variants.Closed = refl
@@ -89,5 +88,5 @@ module _ (p : pap.Pap) (held : Held p) where
   pap-same pkt =
       cond-both SamePap {t = ltb (length pkt) 6} refl (λ _. same refl held refl none)
       (λ _. cond-both SamePap {t = ltb (length pkt) (lengthField pkt)} refl (λ _. same refl held refl none)
-      (λ _. cond-both SamePap {t = ltb (length pkt) (lengthField pkt + 2)} refl (λ _. stops PapPast refl refl)
+      (λ _. cond-both SamePap {t = ltb (length pkt) (lengthField pkt + 2)} refl (λ _. stops (refused-at PapPast refl))
       (λ _. act-same (getD pkt 2 0))))

@@ -37,6 +37,7 @@ use Rattle.original.specs.View.{viewPpp, viewLink}
 use Rattle.original.specs.Panics.{full, dropped, SamePoll, refuses}
 use Rattle.original.proofs.Bytes.{each-take, each-drop}
 use Rattle.original.proofs.Frames.{Carried, pollWriter, crcAfter, transmit-all}
+use Rattle.original.proofs.Refused.{refused-at, refused-so}
 use Rattle.original.proofs.Received as received
 use Rattle.original.proofs.Poll.{poll-is, rest-same}
 
@@ -124,7 +125,7 @@ module _ (l : PPPoS) (tx rx : List ℕ) (held : received.Held (l .ppp)) (bytes :
       unfolding theirs.transmitAll theirs.transmit
       too-long q e h o =
           let long : theirs.transmitAll (newWriter tx) (r .tx) ≡ panics replyLong = rw (e, lt-ltb 128 (packetLen q) h) refl in
-          rw (stopped replyLong long, refused-is l next tx rx pkt o) (refuses (dropped ReplyLong refl refl))
+          rw (stopped replyLong long, refused-is l next tx rx pkt o) (refuses (dropped ReplyLong (refused-at ReplyLong refl) refl))
 
     pub received-same : Goal
     received-same = go (ppp.received (viewPpp (l .ppp)) pkt) refl (received.received-same (l .ppp) held pkt two (each-take (λ b. b < 256) (to - 1) (drop 1 rx) (each-drop (λ b. b < 256) 1 rx bytes)) other)
@@ -132,6 +133,6 @@ module _ (l : PPPoS) (tx rx : List ℕ) (held : received.Held (l .ppp)) (bytes :
         go : (x : Run ppp.Received) → ppp.received (viewPpp (l .ppp)) pkt ≡ x → received.SameReceived pkt x t → Goal
         go x run (received.same a h o d k c) = replies run a h o d k c
         go x run (received.long q e h o) = too-long run q e h o
-        go x run (received.stops {p = place} why e o) =
+        go x run (received.stops {p = place} f) =
             let stop : theirs.poll (viewLink l) tx rx ≡ panics place = poll-is (viewLink l) tx rx {x = panics place} (come ∙ rw run refl) in
-            rw (stop, refused-is l next tx rx pkt o) (refuses (dropped why e refl))
+            rw (stop, refused-is l next tx rx pkt (f .outcome)) (refuses (dropped (f .why) (refused-so f) refl))

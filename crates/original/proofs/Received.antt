@@ -11,13 +11,11 @@ use lib.Dec.{ltb, eqb, lit<}
 use lib.ListN.{length, set}
 use Rattle.laws.specs.Each.{Bytes}
 use Rattle.laws.proofs.Cases.{by-test, cond-both}
-use Rattle.options.specs.Refusal.{numberOf}
 use Rattle.negotiation.specs.Automaton as ours
 use Rattle.negotiation.specs.Pap.{PapTurn}
 use Rattle.options.specs.Wire.{protocolIn}
 use Rattle.negotiation.specs.Automaton.{rejectTurn}
 use Rattle.phases.specs.Phases.{PppTurn, lcpTurn, ipv4cpTurn, papTurn, rejectOf, receivedOf}
-use Rattle.options.specs.declared.refusal.Refusal.{Refusal}
 use Rattle.options.specs.declared.refusal.Refusal.the-variants.{ReplyLong}
 use Rattle.options.specs.declared.refusal.Outcome.the-variants.{Done, Refused}
 use Rattle.options.specs.declared.proto.Proto.the-variants as proto
@@ -28,7 +26,7 @@ use Rattle.original.specs.Fsm.{Handled, packetOf}
 use Rattle.original.specs.Protocols.{Lcp, lcpProtocol, Ipv4cp, ipv4cpProtocol, PapHandled}
 use Rattle.original.specs.Ppp as theirs
 use Rattle.original.specs.View.{viewLcp, viewIpv4cp, viewPpp}
-use Rattle.original.specs.Panics.{numberAt}
+use Rattle.original.specs.Panics.{RefusedAt}
 use Rattle.original.proofs.Frames.{Carried, none, more}
 use Rattle.original.proofs.Packets.{carries-ppp}
 use Rattle.original.proofs.Automaton as automaton
@@ -47,7 +45,7 @@ pub data SameReceived (pkt : List ℕ) : Run theirs.Received → PppTurn → Typ
   same : {r : theirs.Received} {t : PppTurn} → r .ppp ≡ viewPpp (t .ppp) → Held (t .ppp) → t .outcome ≡ Done
       → r .pkt ≡ cond (t .echoed) (set pkt 2 10) pkt → (t .echoed ≡ true → 2 < length pkt) → Carried (r .tx) (t .sent) → SameReceived pkt (returns r) t
   long : {r : theirs.Received} {t : PppTurn} (q : Packet) → r .tx ≡ q ∷ [] → 128 < packetLen q → t .outcome ≡ Refused ReplyLong → SameReceived pkt (returns r) t
-  stops : {p : Place} {t : PppTurn} (why : Refusal) → numberOf why ≡ numberAt p → t .outcome ≡ Refused why → SameReceived pkt (panics p) t
+  stops : {p : Place} {t : PppTurn} → RefusedAt p (t .outcome) → SameReceived pkt (panics p) t
 
 module _ (p : ppp.Ppp) (held : Held p) (pkt : List ℕ) where
   lcp-turn : (h : Run (Handled Lcp)) (t : ours.Turn) → Same lcpProtocol proto.Lcp viewLcp lcp-stands pkt h t
@@ -55,20 +53,20 @@ module _ (p : ppp.Ppp) (held : Held p) (pkt : List ℕ) where
   lcp-turn h t (automaton.same i s x small a b c d e f) =
       rw b (same (ap (theirs.withLcp (viewPpp p)) a) (record { lcp-id = small; ipv4cp-id = held .ipv4cp-id; pap = held .pap }) c d e f)
   lcp-turn h t (automaton.long q a b c) = long q a b c
-  lcp-turn h t (automaton.stops why a b) = stops why a b
+  lcp-turn h t (automaton.stops f) = stops f
 
   ipv4cp-turn : (h : Run (Handled Ipv4cp)) (t : ours.Turn) → Same ipv4cpProtocol proto.Ipv4cp viewIpv4cp ipv4cp-stands pkt h t
       → SameReceived pkt (h >>= λ h. returns (record { ppp = theirs.withIpv4cp (viewPpp p) (h .fsm); pkt = h .pkt; tx = h .tx })) (ipv4cpTurn p t)
   ipv4cp-turn h t (automaton.same i s x small a b c d e f) =
       rw b (same (ap (theirs.withIpv4cp (viewPpp p)) a) (record { lcp-id = held .lcp-id; ipv4cp-id = small; pap = held .pap }) c d e f)
   ipv4cp-turn h t (automaton.long q a b c) = long q a b c
-  ipv4cp-turn h t (automaton.stops why a b) = stops why a b
+  ipv4cp-turn h t (automaton.stops f) = stops f
 
   pap-turn : (h : Run PapHandled) (t : PapTurn) → pap.SamePap h t
       → SameReceived pkt (h >>= λ h. returns (record { ppp = theirs.withPap (viewPpp p) (h .pap); pkt = pkt; tx = h .tx })) (papTurn p t)
   pap-turn h t (pap.same a b c d) =
       same (ap (theirs.withPap (viewPpp p)) a) (record { lcp-id = held .lcp-id; ipv4cp-id = held .ipv4cp-id; pap = b }) c refl (λ e. absurd (false≢true e)) d
-  pap-turn h t (pap.stops why a b) = stops why a b
+  pap-turn h t (pap.stops f) = stops f
 
   reject-same : Bytes pkt → SameReceived pkt (theirs.receivedBy Unknown (viewPpp p) pkt) (rejectOf p pkt)
   unfolding rejectOf rejectTurn

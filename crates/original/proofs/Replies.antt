@@ -10,15 +10,14 @@ use lib.Dec.{lit≤, lit<}
 use lib.ListN.{length, length-append}
 use Rattle.laws.specs.Each.{Bytes}
 use Rattle.laws.proofs.Cases.{by-le}
-use Rattle.options.specs.Refusal.{numberOf, isDone}
+use Rattle.options.specs.Refusal.{isDone}
 use Rattle.options.specs.Wire.{pktOf, contentOf}
 use Rattle.options.specs.Options.{Walk, done, cut, opt, optBytes, sentBack}
 use Rattle.options.specs.Proto.{protocolOf, startOf, judgeOf, ownOf, ownNacked, nacksOf}
 use Rattle.options.specs.Reply.{rankOf, suggestion, listedOf, stepOf, replyOf}
 use Rattle.negotiation.specs.Automaton as ours
-use Rattle.options.specs.declared.refusal.Refusal.{Refusal}
 use Rattle.options.specs.declared.refusal.Refusal.the-variants.{OptionCut, OptionLong, OptionsMany}
-use Rattle.options.specs.declared.refusal.Outcome.the-variants.{Done, Refused}
+use Rattle.options.specs.declared.refusal.Outcome.the-variants.{Done}
 use Rattle.options.specs.declared.proto.Proto.{Proto}
 use Rattle.options.specs.declared.proto.Verdict as verdict
 use Rattle.options.specs.declared.proto.Nacked.{Nacked}
@@ -28,7 +27,8 @@ use Rattle.options.proofs.Replying.{listed-lower, listed-long, listed-higher, l
 use Rattle.original.specs.Run.{Place, Run, returns, panics, _>>=_, unwrap, optionsCut}
 use Rattle.original.specs.Wire.{protocolNumber, OptionVal}
 use Rattle.original.specs.Fsm.{Verdict, Ack, Nack, Rej, Protocol, Answer, retOf, rankOption, peerOption, pushOwn, nackOption}
-use Rattle.original.specs.Panics.{numberAt}
+use Rattle.original.specs.Panics.{RefusedAt}
+use Rattle.original.proofs.Refused.{refused-at}
 use Rattle.original.proofs.Walk.{over, ByteWalk}
 use Rattle.original.proofs.Packets.{Lists, lists-none, lists-more}
 
@@ -80,10 +80,10 @@ module _ {X P : Type 0} (T : Protocol P) (inj : X → Proto) (view : X → P) (s
     pub most : length (a .opts) ≤ 6
     pub room : length (contentOf (r .packet)) ≤ 6 * length (a .opts)
 
-  -- one option: both go on, or the original panics where ours refuses
-  pub data SameStep : Run (Answer P) → Reply → Type 0 where
-    on : {a : Answer P} {r : Reply} → SameReply a r → SameStep (returns a) r
-    off : {p : Place} {r : Reply} (why : Refusal) → numberOf why ≡ numberAt p → r .outcome ≡ Refused why → SameStep (panics p) r
+  -- one option, or all of them, unwrapped: both go on, or the original panics where ours refuses
+  pub data SameAnswer : Run (Answer P) → Reply → Type 0 where
+    on : {a : Answer P} {r : Reply} → SameReply a r → SameAnswer (returns a) r
+    off : {p : Place} {r : Reply} → RefusedAt p (r .outcome) → SameAnswer (panics p) r
 
   theirs-ret : (v : verdict.Verdict) (d : List ℕ) → retOf T (viewVerdict v) d ≡ (rankOf v + 2, sentBack v d suggestion)
   theirs-ret verdict.the-variants.Ack d = refl
@@ -102,7 +102,7 @@ module _ {X P : Type 0} (T : Protocol P) (inj : X → Proto) (view : X → P) (s
   -- a verdict v on option c, with the value d to be sent back
   module _ (a : Answer P) (r : Reply) (same : SameReply a r) (x : X) (v : verdict.Verdict) (c : ℕ) (d : List ℕ) (small : c < 256) (bytes : Bytes d) where
     abbrev Goal : Type 0
-    Goal = SameStep (rankOption T (kept a x) c (rankOf v + 2, d)) (listedOf r (inj x) v c d)
+    Goal = SameAnswer (rankOption T (kept a x) c (rankOf v + 2, d)) (listedOf r (inj x) v c d)
 
     code-is : a .code ≡ rankOf (r .verdict) + 2
     code-is = same .code ∙ code-rank (r .verdict)
@@ -116,8 +116,8 @@ module _ {X P : Type 0} (T : Protocol P) (inj : X → Proto) (view : X → P) (s
     long h l =
         rw (listed-long r (inj x) v c d h l, code-is, lt-ltb 4 (length d) l)
         (by-le (rankOf v) (rankOf (r .verdict))
-        (λ k. rw (le-ltb (rankOf (r .verdict) + 2) (rankOf v + 2) (omega arith), eq-eqb (rankOf (r .verdict) + 2) (rankOf v + 2) (omega arith)) (off OptionLong refl refl))
-        (λ k. rw (lt-ltb (rankOf (r .verdict) + 2) (rankOf v + 2) (omega arith)) (off OptionLong refl refl)))
+        (λ k. rw (le-ltb (rankOf (r .verdict) + 2) (rankOf v + 2) (omega arith), eq-eqb (rankOf (r .verdict) + 2) (rankOf v + 2) (omega arith)) (off (refused-at OptionLong refl)))
+        (λ k. rw (lt-ltb (rankOf (r .verdict) + 2) (rankOf v + 2) (omega arith)) (off (refused-at OptionLong refl))))
 
     higher : rankOf (r .verdict) < rankOf v → length d ≤ 4 → Goal
     higher h l =
@@ -135,7 +135,7 @@ module _ {X P : Type 0} (T : Protocol P) (inj : X → Proto) (view : X → P) (s
         let same-code : rankOf (r .verdict) + 2 ≡ ours.codeOf v = rw h (sym (code-rank v)) in
         rw (code-is, le-ltb (rankOf (r .verdict) + 2) (rankOf v + 2) (omega arith), eq-eqb (rankOf (r .verdict) + 2) (rankOf v + 2) (omega arith), le-ltb 4 (length d) l)
         (by-le 6 (r .count)
-        (λ k. rw (listed-many r (inj x) v c d h l k, same .count, le-leb 6 (r .count) k) (off OptionsMany refl refl))
+        (λ k. rw (listed-many r (inj x) v c d h l k, same .count, le-leb 6 (r .count) k) (off (refused-at OptionsMany refl)))
         (λ k. rw (listed-more r (inj x) v c d h l k, same .count, lt-leb 6 (r .count) k)
         (on (record { x = x; proto = refl; case = refl; code = same-code; count = size; lists = more; going = refl; most = omega (arith, same .count); room = fits }))))
 
@@ -145,7 +145,7 @@ module _ {X P : Type 0} (T : Protocol P) (inj : X → Proto) (view : X → P) (s
         (λ h. by-le (length d) 4 (λ l. by-le (rankOf v) (rankOf (r .verdict)) (λ k. equal (omega arith) l) (λ k. higher k l)) (λ l. long h l))
         lower
 
-  step-same : (a : Answer P) (r : Reply) (c : ℕ) (d : List ℕ) → SameReply a r → c < 256 → Bytes d → SameStep (peerOption T a c d) (stepOf r c d)
+  step-same : (a : Answer P) (r : Reply) (c : ℕ) (d : List ℕ) → SameReply a r → c < 256 → Bytes d → SameAnswer (peerOption T a c d) (stepOf r c d)
   unfolding peerOption stepOf
   step-same a r c d same small bytes =
       let x = same .x in
@@ -155,30 +155,25 @@ module _ {X P : Type 0} (T : Protocol P) (inj : X → Proto) (view : X → P) (s
       rw (theirs, here, theirs-ret v d)
       (listed-same a r same (stands .judged x c d) v c (sentBack v d suggestion) small (back-bytes v d bytes))
 
-  -- all options, unwrapped
-  pub data SameAnswer : Run (Answer P) → Reply → Type 0 where
-    answered : {a : Answer P} {r : Reply} → SameReply a r → SameAnswer (returns a) r
-    refused : {p : Place} {r : Reply} (why : Refusal) → numberOf why ≡ numberAt p → r .outcome ≡ Refused why → SameAnswer (panics p) r
-
   pub reply-same : (a : Answer P) (r : Reply) (w : Walk) → SameReply a r → ByteWalk w → SameAnswer (over (peerOption T) a w >>= unwrap optionsCut) (replyOf r w)
   unfolding replyOf
-  reply-same a r done same b = answered same
-  reply-same a r (cut at) same b = refused (OptionCut at) refl refl
+  reply-same a r done same b = on same
+  reply-same a r (cut at) same b = off (refused-at (OptionCut at) refl)
   reply-same a r (opt c d w) same b = go (peerOption T a c d) (stepOf r c d) (step-same a r c d same (b .0) (b .1)) (λ a′ r′ k. reply-same a′ r′ w k (b .2))
     where
-      go : (t : Run (Answer P)) (s : Reply) → SameStep t s → ((a′ : Answer P) (r′ : Reply) → SameReply a′ r′ → SameAnswer (over (peerOption T) a′ w >>= unwrap optionsCut) (replyOf r′ w))
+      go : (t : Run (Answer P)) (s : Reply) → SameAnswer t s → ((a′ : Answer P) (r′ : Reply) → SameReply a′ r′ → SameAnswer (over (peerOption T) a′ w >>= unwrap optionsCut) (replyOf r′ w))
           → SameAnswer ((t >>= λ a′. over (peerOption T) a′ w) >>= unwrap optionsCut) (cond (isDone (s .outcome)) (replyOf s w) s)
       go (returns a′) s (on k) ih = rw (ap isDone (k .going)) (ih a′ s k)
-      go (panics p) s (off why e f) ih = rw (ap isDone f) (refused why e f)
+      go (panics p) s (off f) ih = rw (ap isDone (f .outcome)) (off f)
 
   -- ---- the options of a Nack or a Rej
 
   pub data SameNacks : Run P → Nacked → Type 0 where
     nacked : (x : X) {n : Nacked} → n ≡ record { outcome = Done; proto = inj x } → SameNacks (returns (view x)) n
-    refused : {p : Place} {n : Nacked} (why : Refusal) → numberOf why ≡ numberAt p → n .outcome ≡ Refused why → SameNacks (panics p) n
+    refused : {p : Place} {n : Nacked} → RefusedAt p (n .outcome) → SameNacks (panics p) n
 
   pub nacks-same : (rej : Bool) (x : X) (w : Walk) → SameNacks (over (nackOption T rej) (view x) w >>= unwrap optionsCut) (nacksOf rej (inj x) w)
   unfolding nacksOf
   nacks-same rej x done = nacked x refl
-  nacks-same rej x (cut at) = refused (OptionCut at) refl refl
+  nacks-same rej x (cut at) = refused (refused-at (OptionCut at) refl)
   nacks-same rej x (opt c d w) = rw (stands .nack-theirs x c d rej, stands .nack-ours x c d rej) (nacks-same rej (stands .nacked x c d rej) w)

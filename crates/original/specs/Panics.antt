@@ -14,6 +14,7 @@ use Rattle.framing.specs.declared.refusal.Refusal.the-variants.{BufferShort, Fr
 use Rattle.options.specs.Refusal.{numberOf}
 use Rattle.options.specs.declared.refusal.Refusal.{Refusal}
 use Rattle.options.specs.declared.refusal.Refusal.the-variants.{CredentialsLong}
+use Rattle.options.specs.declared.refusal.Outcome as negotiation
 use Rattle.link.specs.Choices.{Plain}
 use Rattle.link.specs.Link.{linkOf, Makes, Consumes, Poll, declined, pollLink, Polls}
 use Rattle.link.specs.Reached.{Reached}
@@ -60,6 +61,12 @@ numberAt pollSlice = 5
 numberAt replyLong = 10
 numberAt replyFull = 1
 
+-- an outcome that is the table's refusal for a place
+pub record RefusedAt (place : Place) (o : negotiation.Outcome) : Type 0 where
+  pub why : Refusal
+  pub number : numberOf why ≡ numberAt place
+  pub outcome : o ≡ negotiation.the-variants.Refused why
+
 -- the two `assert!`s of open, where ours opens as if Closed; the record on which the original would go on so
 pub data Asserts : Place → Type 0 where
   ipv4cpOpened : Asserts fsmOpen
@@ -76,7 +83,7 @@ pub data Refuses (l : PPPoS) (tx rx : List ℕ) : Place → Poll → Type 0 wher
   -- a frame does not fit: refusal 1, and everything stays
   full : {p : Poll} → link.numberOf FramesFull ≡ numberAt replyFull → p ≡ declined FramesFull l tx rx → Refuses l tx rx replyFull p
   -- any other panic of a received packet: the table's refusal, and the frame is dropped
-  dropped : {place : Place} {p : Poll} (why : Refusal) → numberOf why ≡ numberAt place
+  dropped : {place : Place} {p : Poll} (why : Refusal) → RefusedAt place (negotiation.the-variants.Refused why)
       → p ≡ declined (Negotiation why) (linkOf (fetched (l .«frame_reader»)) (l .ppp)) tx rx → Refuses l tx rx place p
 
 -- a poll of ours, beside what the original's comes to
