@@ -14,7 +14,7 @@ use Rattle.framing.proofs.Unstuffing.{frame-narrow}
 use Rattle.meeting.proofs.Says.{Self, Small, heard}
 use Rattle.phases.specs.declared.ppp.Ppp.{Ppp}
 use Rattle.link.specs.Frames.{everyByte, frames}
-use Rattle.meeting.specs.Calls.{End, Net, Run, start, atA, atB, steps}
+use Rattle.meeting.specs.Calls.{End, Net, Exchange, start, atA, atB, steps}
 use Rattle.meeting.specs.Statement.{Wrote, Learned, Met, Finishes}
 use Rattle.meeting.proofs.Diamond.{ended, whole}
 use Rattle.meeting.proofs.Ways.{Way, along, Spent, spent}
@@ -68,13 +68,13 @@ written-narrow {z = z} w =
 -- ---- to the end
 
 -- a run with one more call that is handed a byte
-record More {z m : Net} (r : Run z m) : Type 0 where
+record More {z m : Net} (r : Exchange z m) : Type 0 where
   next : Net
-  run : Run z next
+  run : Exchange z next
   one : steps r + 1 ≤ steps run
 
 -- all that is on a wire is handed in, unless both are empty
-more : {z m : Net} (r : Run z m) (tx : List ℕ) → 795 ≤ length tx → ((m .toA ≡ []) × (m .toB ≡ [])) ⊎ More r
+more : {z m : Net} (r : Exchange z m) (tx : List ℕ) → 795 ≤ length tx → ((m .toA ≡ []) × (m .toB ≡ [])) ⊎ More r
 unfolding steps
 more {m = m} r tx room = go (m .toA) (m .toB) refl refl
   where
@@ -88,12 +88,12 @@ none [] h = refl
 none (x ∷ l) h = absurd (omega arith)
 
 module _ {x y : End} {z : Net} (tx : List ℕ) (room : 795 ≤ length tx) (w : Way (Both (self x) (self y)) z) (h : Spent 0 z) where
-  finished : {m : Net} → Run z m → m .toA ≡ [] → m .toB ≡ [] → Finishes x y z
+  finished : {m : Net} → Exchange z m → m .toA ≡ [] → m .toB ≡ [] → Finishes x y z
   finished {m} r e f =
       let q = ended (rw (e, f) at (along w r)) in
       record { last = m; run = r; emptyA = e; emptyB = f; metA = met (q .0); metB = met (q .1) }
 
-  finish-in : (k : ℕ) {m : Net} (r : Run z m) → 684 ≤ steps r + k → Finishes x y z
+  finish-in : (k : ℕ) {m : Net} (r : Exchange z m) → 684 ≤ steps r + k → Finishes x y z
   finish-in zero {m} r e =
       let paid = spent w h r in
       let most = written-narrow (along w r) in

@@ -14,7 +14,7 @@ use Rattle.link.specs.Link.{newLink}
 use Rattle.link.specs.Choices.{Plain}
 use Rattle.link.specs.Reached.{by-new}
 use Rattle.link.specs.declared.choices.Choices.{Choices}
-use Rattle.meeting.specs.Calls.{End, endOf, Net, begun, Run}
+use Rattle.meeting.specs.Calls.{End, endOf, Net, begun, Exchange}
 use Rattle.meeting.specs.Statement.{Ready, Meeting}
 use Rattle.meeting.proofs.Meet.{two-ends-meet}
 
@@ -36,5 +36,5 @@ fresh-ready (made name password c p rx h) =
     }
 
 pub fresh-meet : {x y : End} → Fresh x → Fresh y → (tx tx′ : List ℕ) → 795 ≤ length tx → 795 ≤ length tx′
-    → (z : Net) (r : Run (begun x y tx tx′) z) → Meeting x y tx tx′ z r
+    → (z : Net) (r : Exchange (begun x y tx tx′) z) → Meeting x y tx tx′ z r
 fresh-meet {x} {y} hx hy = two-ends-meet x y (fresh-ready hx) (fresh-ready hy)

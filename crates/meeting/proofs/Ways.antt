@@ -15,7 +15,7 @@ use Rattle.link.specs.Frames.{frames}
 use Rattle.link.specs.Link.{linkOf, pollLink}
 use Rattle.link.specs.declared.refusal.Outcome.{Outcome}
 use Rattle.link.specs.declared.refusal.Outcome.the-variants.{Done}
-use Rattle.meeting.specs.Calls.{End, Answer, behind, takes, Net, flip, answered, Run, start, atA, atB, oneUnlessEmpty, steps}
+use Rattle.meeting.specs.Calls.{End, Answer, behind, takes, Net, flip, answered, Exchange, start, atA, atB, oneUnlessEmpty, steps}
 use Rattle.meeting.specs.Statement.{Framed, Unrefused}
 use Rattle.meeting.proofs.Bytes.{hold, feed, turn, Rest, stepped-quiet, says-quiet, stepped-full, says-full, rests, replies}
 use Rattle.meeting.proofs.Diamond.{Ends, flipped, next, readable, resting}
@@ -91,7 +91,7 @@ step-way : {Q : End → End → List ℕ → List ℕ → Type 0} (m : Net) → 
     → Way Q (answered m (takes (m .a) tx c))
 step-way m w tx c rest room e = rw e (at-first m w tx c rest room e .way)
 
-pub along : {Q : End → End → List ℕ → List ℕ → Type 0} {n m : Net} → Way Q n → Run n m → Way Q m
+pub along : {Q : End → End → List ℕ → List ℕ → Type 0} {n m : Net} → Way Q n → Exchange n m → Way Q m
 along w start = w
 along w (atA {m = m} r tx c rest h e) = step-way m (along w r) tx c rest h e
 along w (atB {m = m} r tx c rest h e) = flipped (step-way (flip m) (flipped (along w r)) tx c rest h e)
@@ -109,7 +109,7 @@ step-spent k m w tx c rest room e h =
     let got = takes (m .a) tx c in
     omega (arith, p .least, no-more (m .a) tx c, length-drop (got .used) (m .toA), length-append (m .toB) (got .written), length-append (m .fromA) (got .written), ap length e, length-append c rest)
 
-pub spent : {Q : End → End → List ℕ → List ℕ → Type 0} {n m : Net} → Way Q n → Spent 0 n → (r : Run n m) → Spent (steps r) m
+pub spent : {Q : End → End → List ℕ → List ℕ → Type 0} {n m : Net} → Way Q n → Spent 0 n → (r : Exchange n m) → Spent (steps r) m
 unfolding steps
 spent w h start = h
 spent w h (atA {m = m} r tx c rest room e) = step-spent (steps r) m (along w r) tx c rest room e (spent w h r)

@@ -90,17 +90,17 @@ begun x y tx tx′ =
     }
 
 -- any calls: some first bytes of those on a wire, cut anywhere, with any transmit buffer of 795 bytes or more
-pub data Run (n : Net) : Net → Type 0 where
-  start : Run n n
-  atA : {m : Net} → Run n m → (tx c rest : List ℕ) → 795 ≤ length tx → m .toA ≡ c ++ rest → Run n (answered m (takes (m .a) tx c))
-  atB : {m : Net} → Run n m → (tx c rest : List ℕ) → 795 ≤ length tx → m .toB ≡ c ++ rest → Run n (flip (answered (flip m) (takes (m .b) tx c)))
+pub data Exchange (n : Net) : Net → Type 0 where
+  start : Exchange n n
+  atA : {m : Net} → Exchange n m → (tx c rest : List ℕ) → 795 ≤ length tx → m .toA ≡ c ++ rest → Exchange n (answered m (takes (m .a) tx c))
+  atB : {m : Net} → Exchange n m → (tx c rest : List ℕ) → 795 ≤ length tx → m .toB ≡ c ++ rest → Exchange n (flip (answered (flip m) (takes (m .b) tx c)))
 
 abbrev pub oneUnlessEmpty : List ℕ → ℕ
 oneUnlessEmpty [] = 0
 oneUnlessEmpty (b ∷ c) = 1
 
 -- how many of the calls were handed a byte or more
-unfoldable pub steps : {n m : Net} → Run n m → ℕ
+unfoldable pub steps : {n m : Net} → Exchange n m → ℕ
 steps start = 0
 steps (atA r tx c rest h e) = steps r + oneUnlessEmpty c
 steps (atB r tx c rest h e) = steps r + oneUnlessEmpty c

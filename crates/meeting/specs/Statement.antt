@@ -12,7 +12,7 @@ use Rattle.link.specs.Frames.{frames}
 use Rattle.link.specs.Choices.{Plain}
 use Rattle.link.specs.Reached.{Reached}
 use Rattle.link.specs.declared.choices.Choices.{Choices}
-use Rattle.meeting.specs.Calls.{End, Answer, opens, takes, Net, flip, begun, Run, steps}
+use Rattle.meeting.specs.Calls.{End, Answer, opens, takes, Net, flip, begun, steps, Exchange}
 
 -- "Take two links in phase Dead, each reached from a fresh link by calls, each reader between frames with nothing kept and no escape
 -- pending": made with plain choices, so the reading is either; the receive buffer has 27 bytes or more with any contents
@@ -85,14 +85,14 @@ pub record Side (x y : End) (z : Net) : Type 0 where
 -- all has been passed on, after some more calls, and both ends have met
 pub record Finishes (x y : End) (z : Net) : Type 0 where
   pub last : Net
-  pub run : Run z last
+  pub run : Exchange z last
   pub emptyA : last .toA ≡ []
   pub emptyB : last .toB ≡ []
   pub metA : Met x y (last .a) (last .fromA)
   pub metB : Met y x (last .b) (last .fromB)
 
 -- both ends; calls that are handed a byte are 684 at most, so that a run which goes on with such calls comes to where all is passed on
-pub record Meeting (x y : End) (tx tx′ : List ℕ) (z : Net) (r : Run (begun x y tx tx′) z) : Type 0 where
+pub record Meeting (x y : End) (tx tx′ : List ℕ) (z : Net) (r : Exchange (begun x y tx tx′) z) : Type 0 where
   pub opensA : Unrefused (opens x tx)
   pub opensB : Unrefused (opens y tx′)
   pub atA : Side x y z
@@ -103,4 +103,4 @@ pub record Meeting (x y : End) (tx tx′ : List ℕ) (z : Net) (r : Run (begun x
 -- "Open both and poll each once before a byte reaches it. Then pass the bytes on in any cuts and any order between the directions"
 abbrev pub TwoEndsMeet : Type 0
 TwoEndsMeet = (x y : End) → Ready x → Ready y → (tx tx′ : List ℕ) → 795 ≤ length tx → 795 ≤ length tx′
-    → (z : Net) (r : Run (begun x y tx tx′) z) → Meeting x y tx tx′ z r
+    → (z : Net) (r : Exchange (begun x y tx tx′) z) → Meeting x y tx tx′ z r

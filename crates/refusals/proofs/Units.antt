@@ -38,17 +38,17 @@ join-flatten (u ∷ us) = ap (λ (l : List ℕ). u ++ l) (join-flatten us)
 -- ---- the most that fit
 
 -- a number of units that room bytes hold, and one more they do not
-record Run (us : List (List ℕ)) (room : ℕ) : Type 0 where
+record Filled (us : List (List ℕ)) (room : ℕ) : Type 0 where
   number : ℕ
   fits : length (flatten (take number us)) ≤ room
   most : number < length us → room < length (flatten (take (suc number) us))
   run : fit room us ≡ flatten (take number us)
 
-run-of : (us : List (List ℕ)) (room : ℕ) → Run us room
+filled-of : (us : List (List ℕ)) (room : ℕ) → Filled us room
 unfolding fit flatten
-run-of [] room = record { number = 0; fits = omega arith; most = λ h. absurd (omega arith); run = refl }
-run-of (u ∷ us) room =
-    let r = run-of us (room - length u) in
+filled-of [] room = record { number = 0; fits = omega arith; most = λ h. absurd (omega arith); run = refl }
+filled-of (u ∷ us) room =
+    let r = filled-of us (room - length u) in
     by-test (leb (length u) room)
     (λ e. let h = leb-true (length u) room e in
     record {
@@ -68,7 +68,7 @@ pub record Fit (us : List (List ℕ)) (at : ℕ) (buf : List ℕ) : Type 0 where
 
 pub fit-of : (us : List (List ℕ)) (at : ℕ) (buf : List ℕ) → at ≤ length buf → Fit us at buf
 fit-of us at buf h =
-    let r = run-of us (length buf - at) in
+    let r = filled-of us (length buf - at) in
     let bs = flatten (take (r .number) us) in
     let f : at + length bs ≤ length buf = omega (arith, r .fits) in
     record {
