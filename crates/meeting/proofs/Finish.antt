@@ -15,7 +15,7 @@ use Rattle.meeting.proofs.Says.{Self, Small, heard}
 use Rattle.phases.specs.declared.ppp.Ppp.{Ppp}
 use Rattle.link.specs.Frames.{everyByte, frames}
 use Rattle.meeting.specs.Calls.{End, Net, Exchange, start, atA, atB, steps}
-use Rattle.meeting.specs.Statement.{Wrote, Learned, Met, Finishes}
+use Rattle.meeting.specs.Statement.{AllWritten, Learned, Met, Finishes}
 use Rattle.meeting.proofs.Diamond.{ended, whole}
 use Rattle.meeting.proofs.Ways.{Way, along, Spent, spent}
 use Rattle.meeting.proofs.Frames.{Told, Both}
@@ -31,7 +31,7 @@ learned {v} {was} {now} r e =
       unchanged = λ f. e ∙ ap (λ (k : Bool). heard v k was) f;
     }
 
-pub wrote : {X Y : Self} {e : End} {w : List ℕ} → Told X Y e w → Wrote w
+pub wrote : {X Y : Self} {e : End} {w : List ℕ} → Told X Y e w → AllWritten w
 wrote t = record { framed = record { packets = t .packets; whole = t .whole }; count = t .count }
 
 pub met : {x y e : End} {w : List ℕ} → Told (self x) (self y) e w → Met x y e w

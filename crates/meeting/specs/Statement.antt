@@ -43,14 +43,14 @@ pub record FourToSix (ps : List (List ℕ)) : Type 0 where
   pub most : length ps ≤ 6
 
 -- w is all that an end writes, its first poll's frame included
-pub record Wrote (w : List ℕ) : Type 0 where
+pub record AllWritten (w : List ℕ) : Type 0 where
   pub framed : Framed w
   pub count : FourToSix (framed .packets)
 
 -- w is the beginning of what an end writes
 pub record Begins (w : List ℕ) : Type 0 where
   pub rest : List ℕ
-  pub extends : Wrote (w ++ rest)
+  pub extends : AllWritten (w ++ rest)
 
 -- "equal to what the other offered, unchanged for an option not offered": v is offered unless it was rejected, and is a u32
 pub record Learned (v : ℕ) (rejected : Bool) (was now : ℕ) : Type 0 where
@@ -70,7 +70,7 @@ pub record Met (x y e : End) (w : List ℕ) : Type 0 where
   pub own-map : e .link .ppp .lcp .proto .asyncmap ≡ x .link .ppp .lcp .proto .asyncmap
   pub own-map-rejected : e .link .ppp .lcp .proto .«asyncmap_rej» ≡ x .link .ppp .lcp .proto .«asyncmap_rej»
   pub own-address : e .link .ppp .ipv4cp .proto .address ≡ x .link .ppp .ipv4cp .proto .address
-  pub wrote : Wrote w
+  pub wrote : AllWritten w
 
 -- one end, wherever a run has come to
 pub record Side (x y : End) (z : Net) : Type 0 where

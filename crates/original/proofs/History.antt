@@ -10,7 +10,7 @@ use Rattle.link.specs.declared.refusal.Outcome.the-variants.{Done}
 use Rattle.link.specs.declared.choices.Choices.{Choices}
 use Rattle.link.specs.declared.pppos.PPPoS.{PPPoS}
 use Rattle.original.specs.Run.{Run, returns, panics, _>>=_, Result, ok, err}
-use Rattle.original.specs.Framing.{Wrote}
+use Rattle.original.specs.Framing.{WriteResult}
 use Rattle.original.specs.Pppos as theirs
 use Rattle.original.specs.View.{viewLink}
 use Rattle.original.specs.Domain.{Lasting, Framed}
@@ -73,7 +73,7 @@ opened-same : (l : PPPoS) (x : Result theirs.PPPoS) {o : Outcome} {l′ : PPPoS}
 opened-same l (ok m) (d, v, r) = record { answer = ap history.opened d; link = v }
 opened-same l err (d, v) = record { answer = ap history.opened d; link = ap viewLink v }
 
-sent-same : (w : Wrote) {o : Outcome} {n : ℕ} {tx : List ℕ} → SameSend w o n tx → history.sent o n tx ≡ asAnswer (sentBy w)
+sent-same : (w : WriteResult) {o : Outcome} {n : ℕ} {tx : List ℕ} → SameSend w o n tx → history.sent o n tx ≡ asAnswer (sentBy w)
 sent-same w s = by-test (w .isOk) (λ t. rw (s .outcome, s .count, s .bytes, t) refl) (λ t. rw (s .outcome, s .count, s .bytes, t) refl)
 
 call-same : {l : PPPoS} {c : Call} {a : OurAnswer} {l′ : PPPoS} → Called l c a l′ → Kept l → (s : Answered) → callOf (viewLink l) c ≡ returns s → SameCall a l′ s

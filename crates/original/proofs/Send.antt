@@ -18,24 +18,24 @@ use Rattle.framing.proofs.Frame.{frame-done, encodes}
 use Rattle.link.specs.Link.{ipFrame, remoteMap, Sends}
 use Rattle.link.specs.declared.refusal.Outcome.{Outcome}
 use Rattle.link.specs.declared.pppos.PPPoS.{PPPoS}
-use Rattle.original.specs.Framing.{FrameWriter, newWithAsyncmap, Wrote, try, append, finish}
+use Rattle.original.specs.Framing.{FrameWriter, newWithAsyncmap, WriteResult, try, append, finish}
 use Rattle.original.specs.Pppos.{send}
 use Rattle.original.specs.View.{viewLink}
 use Rattle.original.specs.Same.{SameSend}
 use Rattle.original.proofs.Writer.{start-is, append-is, finish-is}
 
 -- what a writer's calls leave is what a run of units leaves
-abbrev Ends : List (List ℕ) → List ℕ → ℕ → Wrote → Type 0
+abbrev Ends : List (List ℕ) → List ℕ → ℕ → WriteResult → Type 0
 Ends us buf at r = Ran us buf at (r .writer .buf) (r .writer .len) (r .isOk)
 
 -- a run as an answer, with a check value by whether it was done
-abbrev ran : ℕ → (Bool → ℕ) → Out → Wrote
+abbrev ran : ℕ → (Bool → ℕ) → Out → WriteResult
 ran m k o = record { isOk = o .done; writer = record { buf = o .bytes; len = o .at; crc = k (o .done); asyncmap = m } }
 
 abbrev at-end : ℕ → ℕ → Out → FrameWriter
 at-end m c o = record { buf = o .bytes; len = o .at; crc = c; asyncmap = m }
 
-ran-try : (m : ℕ) (k : Bool → ℕ) (us vs : List (List ℕ)) (buf : List ℕ) (at : ℕ) (next : FrameWriter → Wrote)
+ran-try : (m : ℕ) (k : Bool → ℕ) (us vs : List (List ℕ)) (buf : List ℕ) (at : ℕ) (next : FrameWriter → WriteResult)
     → ((o : Out) → Ends vs (o .bytes) (o .at) (next (at-end m (k true) o))) → Ends (us ++ vs) buf at (try (ran m k (write us buf at)) next)
 ran-try m k us vs buf at next h = go (write us buf at) refl
   where
@@ -53,8 +53,8 @@ module _ (l : PPPoS) (pkt tx : List ℕ) (bytes : Bytes pkt) where
   send-runs =
       let head : List ℕ = 0x00 ∷ 0x21 ∷ [] in
       let c = fcs 0x3DE3 head in
-      let last : FrameWriter → Wrote = λ w. try (append w pkt) (λ w. finish w) in
-      let rest : FrameWriter → Wrote = λ w. try (append w head) last in
+      let last : FrameWriter → WriteResult = λ w. try (append w pkt) (λ w. finish w) in
+      let rest : FrameWriter → WriteResult = λ w. try (append w head) last in
       let small : Bytes head = (lit< tt, (lit< tt, tt)) in
       rw (units-append m head pkt, append-assoc (units m head) (units m pkt) (finishUnits m (fcs c pkt)), start-is (newWithAsyncmap tx m))
       (ran-try m (λ _. 0x3DE3) (startUnits m) (units m head ++ (units m pkt ++ finishUnits m (fcs c pkt))) tx 0 rest

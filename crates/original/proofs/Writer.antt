@@ -18,7 +18,7 @@ use Rattle.framing.specs.declared.refusal.Outcome.{Outcome}
 use Rattle.framing.specs.declared.frame_writer.FrameWriter as ours
 use Rattle.framing.proofs.Run.{run-next, run-stop}
 use Rattle.original.specs.Crc.{crc16}
-use Rattle.original.specs.Framing.{FrameWriter, Wrote, try, withCrc, appendRaw, escapes, appendEscaped, start, finish, append}
+use Rattle.original.specs.Framing.{FrameWriter, WriteResult, try, withCrc, appendRaw, escapes, appendEscaped, start, finish, append}
 use Rattle.original.specs.View.{viewWriter}
 use Rattle.original.specs.SameFraming.{SameWrite}
 use Rattle.original.proofs.Crc.{same-crc16}
@@ -58,11 +58,11 @@ same-escapes m b =
 -- ---- a run of units
 
 -- what a run leaves, as the original's answer
-abbrev outIn : FrameWriter → Out → Wrote
+abbrev outIn : FrameWriter → Out → WriteResult
 outIn w o = record { isOk = o .done; writer = record { buf = o .bytes; len = o .at; crc = w .crc; asyncmap = w .asyncmap } }
 
 -- one unit, then a run
-raw-then : (w : FrameWriter) (u : List ℕ) (us : List (List ℕ)) (next : FrameWriter → Wrote)
+raw-then : (w : FrameWriter) (u : List ℕ) (us : List (List ℕ)) (next : FrameWriter → WriteResult)
     → ((v : FrameWriter) → v .crc ≡ w .crc → v .asyncmap ≡ w .asyncmap → next v ≡ outIn w (write us (v .buf) (v .len)))
     → try (appendRaw w u) next ≡ outIn w (write (u ∷ us) (w .buf) (w .len))
 unfolding appendRaw write
@@ -97,7 +97,7 @@ escaped-is w (b ∷ bs) =
     (λ v p q. escaped-is v bs ∙ rw (p, q) refl))
 
 -- two runs, one behind the other
-run-then : (w : FrameWriter) (us vs : List (List ℕ)) (next : FrameWriter → Wrote)
+run-then : (w : FrameWriter) (us vs : List (List ℕ)) (next : FrameWriter → WriteResult)
     → ((v : FrameWriter) → v .crc ≡ w .crc → v .asyncmap ≡ w .asyncmap → next v ≡ outIn w (write vs (v .buf) (v .len)))
     → try (outIn w (write us (w .buf) (w .len))) next ≡ outIn w (write (us ++ vs) (w .buf) (w .len))
 run-then w us vs next h = go (write us (w .buf) (w .len)) refl
@@ -111,7 +111,7 @@ run-then w us vs next h = go (write us (w .buf) (w .len)) refl
       where
         stopped : (o : Out) → o .bytes ≡ write (us ++ vs) (w .buf) (w .len) .bytes → o .at ≡ write (us ++ vs) (w .buf) (w .len) .at
             → false ≡ write (us ++ vs) (w .buf) (w .len) .done
-            → _≡_ {A = Wrote} (record { isOk = false; writer = record { buf = o .bytes; len = o .at; crc = w .crc; asyncmap = w .asyncmap } }) (outIn w (write (us ++ vs) (w .buf) (w .len)))
+            → _≡_ {A = WriteResult} (record { isOk = false; writer = record { buf = o .bytes; len = o .at; crc = w .crc; asyncmap = w .asyncmap } }) (outIn w (write (us ++ vs) (w .buf) (w .len)))
         stopped o a b c = rw (a, b, ← c) refl
 
 -- ---- the calls
@@ -127,7 +127,7 @@ finish-is w =
     (run-then w (units (w .asyncmap) (checkBytes (w .crc))) ((0x7E ∷ []) ∷ []) _ (λ v p q. raw-is v (0x7E ∷ []) ∙ rw (p, q) refl))
 
 -- the check value changes only where all fitted
-abbrev appended : FrameWriter → ℕ → Out → Wrote
+abbrev appended : FrameWriter → ℕ → Out → WriteResult
 appended w c o = outIn (withCrc w (cond (o .done) c (w .crc))) o
 
 pub append-is : (w : FrameWriter) (bs : List ℕ) → Bytes bs
@@ -139,15 +139,15 @@ append-is w bs h = rw (escaped-is w bs) (go (write (units (w .asyncmap) bs) (w .
     go o = by-test (o .done) (λ t. rw (t, same-crc16 (w .crc) bs h) refl) (λ t. rw t refl)
 
 -- what our calls promise is what the original does
-same-write : {us : List (List ℕ)} {full crc : ℕ} {w w′ : ours.FrameWriter} {buf buf′ : List ℕ} {o : Outcome} {r : Wrote} → w .len ≤ length buf
+same-write : {us : List (List ℕ)} {full crc : ℕ} {w w′ : ours.FrameWriter} {buf buf′ : List ℕ} {o : Outcome} {r : WriteResult} → w .len ≤ length buf
     → Writes us full crc w buf o w′ buf′
     → r ≡ outIn (withCrc (viewWriter w buf) (cond (write us buf (w .len) .done) crc full)) (write us buf (w .len))
     → SameWrite r o w′ buf′
 same-write {us} {full} {crc} {w} {w′} {buf} h c e =
     let l = le-leb (w .len) (length buf) h in
     record {
-      number = rw (l, ← ap (λ (x : Wrote). x .isOk) e) at (c .number);
-      writer = rw (rw l at (c .writer), rw l at (c .bytes)) (sym (ap (λ (x : Wrote). x .writer) e));
+      number = rw (l, ← ap (λ (x : WriteResult). x .isOk) e) at (c .number);
+      writer = rw (rw l at (c .writer), rw l at (c .bytes)) (sym (ap (λ (x : WriteResult). x .writer) e));
     }
 
 module _ (w : ours.FrameWriter) (buf : List ℕ) (room : w .len ≤ length buf) {o : Outcome} {w′ : ours.FrameWriter} {buf′ : List ℕ} where

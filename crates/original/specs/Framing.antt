@@ -26,19 +26,19 @@ abbrev pub newWriter : List ℕ → FrameWriter
 newWriter buf = newWithAsyncmap buf 0xFFFFFFFF
 
 -- Result<(), BufferFullError>, beside the writer as the call left it
-pub record Wrote : Type 0 where
+pub record WriteResult : Type 0 where
   pub isOk : Bool
   pub writer : FrameWriter
 
 -- `?`
-abbrev pub try : Wrote → (FrameWriter → Wrote) → Wrote
+abbrev pub try : WriteResult → (FrameWriter → WriteResult) → WriteResult
 try r next = cond (r .isOk) (next (r .writer)) r
 
 abbrev pub withCrc : FrameWriter → ℕ → FrameWriter
 withCrc w c = record { buf = w .buf; len = w .len; crc = c; asyncmap = w .asyncmap }
 
 -- FrameWriter::append_raw
-unfoldable pub appendRaw : FrameWriter → List ℕ → Wrote
+unfoldable pub appendRaw : FrameWriter → List ℕ → WriteResult
 appendRaw w bs =
     cond (ltb (length (w .buf)) (w .len + length bs))
     (record { isOk = false; writer = w })
@@ -49,13 +49,13 @@ unfoldable pub escapes : ℕ → ℕ → Bool
 escapes m b = cond (leb b 0x1F) (not (eqb (bitAnd m (2 ^ b)) 0)) (cond (eqb b 0x7D) true (cond (eqb b 0x7E) true false))
 
 -- FrameWriter::append_escaped
-unfoldable pub appendEscaped : FrameWriter → List ℕ → Wrote
+unfoldable pub appendEscaped : FrameWriter → List ℕ → WriteResult
 appendEscaped w [] = record { isOk = true; writer = w }
 appendEscaped w (b ∷ bs) =
     try (cond (escapes (w .asyncmap) b) (appendRaw w (0x7D ∷ bitXor b 0x20 ∷ [])) (appendRaw w (b ∷ []))) (λ v. appendEscaped v bs)
 
 -- FrameWriter::start; a last `?` with `Ok(())` behind it gives what the call gave
-unfoldable pub start : FrameWriter → Wrote
+unfoldable pub start : FrameWriter → WriteResult
 start w = try (appendRaw (withCrc w (crc16 0xFFFF (0xFF ∷ 0x03 ∷ []))) (0x7E ∷ 0xFF ∷ [])) (λ v. appendEscaped v (0x03 ∷ []))
 
 -- u16::to_le_bytes
@@ -63,11 +63,11 @@ abbrev pub toLeBytes : ℕ → List ℕ
 toLeBytes c = c % 256 ∷ c / 256 ∷ []
 
 -- FrameWriter::finish
-unfoldable pub finish : FrameWriter → Wrote
+unfoldable pub finish : FrameWriter → WriteResult
 finish w = try (appendEscaped w (toLeBytes (bitXor (w .crc) 0xFFFF))) (λ v. appendRaw v (0x7E ∷ []))
 
 -- FrameWriter::append
-unfoldable pub append : FrameWriter → List ℕ → Wrote
+unfoldable pub append : FrameWriter → List ℕ → WriteResult
 append w bs = try (appendEscaped w bs) (λ v. record { isOk = true; writer = withCrc v (crc16 (v .crc) bs) })
 
 -- ---- frame_reader.rs

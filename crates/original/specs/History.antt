@@ -19,7 +19,7 @@ use Rattle.link.specs.declared.refusal.Outcome.the-variants.{Done, Refused}
 use Rattle.link.specs.declared.choices.Choices.{Choices}
 use Rattle.link.specs.declared.pppos.PPPoS.{PPPoS}
 use Rattle.original.specs.Run.{Run, returns, _>>=_, Result, ok, err}
-use Rattle.original.specs.Framing.{Wrote}
+use Rattle.original.specs.Framing.{WriteResult}
 use Rattle.original.specs.Ppp.{Status}
 use Rattle.original.specs.Pppos as theirs
 use Rattle.original.specs.View.{viewLink, asStatus, asAction}
@@ -51,7 +51,7 @@ abbrev pub openedBy : theirs.PPPoS → Result theirs.PPPoS → Answered
 openedBy m (ok n) = record { answer = opened true; link = n }
 openedBy m err = record { answer = opened false; link = m }
 
-abbrev pub sentBy : Wrote → Answer
+abbrev pub sentBy : WriteResult → Answer
 sentBy w = sent (cond (w .isOk) (ok (w .writer .len)) err) (w .writer .buf)
 
 abbrev pub callOf : theirs.PPPoS → Call → Run Answered

@@ -6,7 +6,7 @@ use lib.Dec.{ltb, eqb}
 use lib.ListN.{length, take, drop}
 use Rattle.laws.specs.Be.{beOf, beBytes}
 use Rattle.original.specs.Run.{Run, returns, panics, pollOrder, pollRange, pollSlice, replyLong, replyFull, _>>=_, Result, ok, err}
-use Rattle.original.specs.Framing.{FrameWriter, newWriter, newWithAsyncmap, Wrote, try, start, append, finish, FrameReader, newReader, Fetch, nothing, range, receive, consume}
+use Rattle.original.specs.Framing.{FrameWriter, newWriter, newWithAsyncmap, WriteResult, try, start, append, finish, FrameReader, newReader, Fetch, nothing, range, receive, consume}
 use Rattle.original.specs.Wire.{ProtocolType, Unknown, LCP, PAP, IPv4, IPv4CP, protocolFrom, Packet, packetLen, emit}
 use Rattle.original.specs.Ppp.{Ppp, newPpp, openIn, Status, status, received, pollPpp}
 
@@ -41,7 +41,7 @@ openLink l = openResult l (openIn (l .ppp .phase) (l .ppp))
 -- ---- poll
 
 -- `.unwrap()` of a writer's call
-abbrev pub unwrapped : Wrote → Run FrameWriter
+abbrev pub unwrapped : WriteResult → Run FrameWriter
 unwrapped r = cond (r .isOk) (returns (r .writer)) (panics replyFull)
 
 -- the closure tx
@@ -114,7 +114,7 @@ poll l tx rx = handleInput l tx rx >>= pollInput
 -- ---- send and consume
 
 -- PPPoS::send, as what the writer's last call gave: its length is the answer where that was Ok
-unfoldable pub send : PPPoS → List ℕ → List ℕ → Wrote
+unfoldable pub send : PPPoS → List ℕ → List ℕ → WriteResult
 send l pkt tx =
     try (start (newWithAsyncmap tx (l .ppp .lcp .proto .asyncmapRemote))) (λ w.
     try (append w (beBytes 2 0x0021)) (λ w.

@@ -18,13 +18,13 @@ use Rattle.link.specs.declared.refusal.Outcome.the-variants.{Done, Refused}
 use Rattle.link.specs.declared.choices.Choices.{Choices}
 use Rattle.link.specs.declared.pppos.PPPoS.{PPPoS}
 use Rattle.original.specs.Run.{returns, Result, ok, err}
-use Rattle.original.specs.Framing.{Wrote}
+use Rattle.original.specs.Framing.{WriteResult}
 use Rattle.original.specs.Pppos as theirs
 use Rattle.original.specs.View.{viewLink, asStatus, asAction}
 use Rattle.original.specs.Domain.{Lent, InDomain}
 
 -- a call of send: done where the original says Ok, refusal 1 where it says Err; its count, and every byte of the buffer
-pub record SameSend (r : Wrote) (o : Outcome) (n : ℕ) (tx : List ℕ) : Type 0 where
+pub record SameSend (r : WriteResult) (o : Outcome) (n : ℕ) (tx : List ℕ) : Type 0 where
   pub outcome : o ≡ cond (r .isOk) Done (Refused (Framing BufferFull))
   pub count : n ≡ cond (r .isOk) (r .writer .len) 0
   pub bytes : tx ≡ r .writer .buf

@@ -18,12 +18,12 @@ use Rattle.framing.specs.declared.frame_reader.Reading.the-variants.{Crate}
 use Rattle.framing.specs.declared.frame_writer.FrameWriter as writer
 use Rattle.original.specs.Run.{returns}
 use Rattle.original.specs.Crc.{crc16}
-use Rattle.original.specs.Framing.{newWithAsyncmap, Wrote, start, append, finish, FrameReader, newReader, Fetch, nothing, range, receive, consume}
+use Rattle.original.specs.Framing.{newWithAsyncmap, WriteResult, start, append, finish, FrameReader, newReader, Fetch, nothing, range, receive, consume}
 use Rattle.original.specs.View.{viewWriter, viewReader}
 use Rattle.original.specs.Domain.{Framed}
 
 -- a writer's call: done where the original says Ok, refusal 1 where it says Err, and what both leave
-pub record SameWrite (r : Wrote) (o : framed.Outcome) (w : writer.FrameWriter) (buf : List ℕ) : Type 0 where
+pub record SameWrite (r : WriteResult) (o : framed.Outcome) (w : writer.FrameWriter) (buf : List ℕ) : Type 0 where
   pub number : framing.outcomeNumber o ≡ cond (r .isOk) 0 1
   pub writer : viewWriter w buf ≡ r .writer
 

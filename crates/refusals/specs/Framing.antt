@@ -73,7 +73,7 @@ allWritten c w buf =
 -- ---- the encoding of one packet, also for C
 
 -- what it leaves: the count and the buffer that was lent
-pub record Wrote : Type 0 where
+pub record Counted : Type 0 where
   pub count : ℕ
   pub bytes : List ℕ
 
@@ -82,11 +82,11 @@ abbrev pub unitsOf : ℕ → List ℕ → List (List ℕ)
 unitsOf m p = (0x7E ∷ 0xFF ∷ []) ∷ (map (unit m) (drop 1 (fields p)) ++ ((0x7E ∷ []) ∷ []))
 
 -- 1: the writer's units don't fit | the units that fitted; the count is 0
-abbrev pub encodeRows : ℕ → List ℕ → List ℕ → List (Row Wrote)
+abbrev pub encodeRows : ℕ → List ℕ → List ℕ → List (Row Counted)
 encodeRows m p buf = row 1 (length buf < length (frame m p)) (λ w. (w .count ≡ 0) × Fitted (unitsOf m p) 0 buf (w .bytes)) ∷ []
 
 -- what it leaves where nothing is refused: the whole frame from the front
-abbrev pub wholeFrame : ℕ → List ℕ → List ℕ → Wrote
+abbrev pub wholeFrame : ℕ → List ℕ → List ℕ → Counted
 wholeFrame m p buf = record { count = length (frame m p); bytes = placed 0 (frame m p) buf }
 
 -- the C function answers the count alone: 0 stands for refusal 1

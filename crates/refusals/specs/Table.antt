@@ -16,7 +16,7 @@ use Rattle.phases.specs.declared.ppp.Ppp.{Ppp}
 use Rattle.link.specs.declared.choices.Choices.{Choices}
 use Rattle.link.specs.declared.pppos.PPPoS.{PPPoS}
 use Rattle.refusals.specs.Rows.{Row, row}
-use Rattle.refusals.specs.Framing.{Wrote, encodeRows, movedOn}
+use Rattle.refusals.specs.Framing.{Counted, encodeRows, movedOn}
 use Rattle.refusals.specs.Packets.{packetRows}
 
 -- ---- new
@@ -60,7 +60,7 @@ openRows phase l = row 2 (phase ≡ Dead → ⊥) (λ l′. l′ ≡ l) ∷ []
 -- ---- send
 
 -- the rows of encoding one packet, protocol 0021 before it, with `asyncmap_remote`
-abbrev pub sendRows : PPPoS → List ℕ → List ℕ → List (Row Wrote)
+abbrev pub sendRows : PPPoS → List ℕ → List ℕ → List (Row Counted)
 sendRows l pkt tx =
     let m = l .ppp .lcp .proto .«asyncmap_remote» in
     let p : List ℕ = 0x00 ∷ 0x21 ∷ pkt in
@@ -69,7 +69,7 @@ sendRows l pkt tx =
 -- ---- status lines
 
 -- 1: lines don't fit, where text is what they say | nothing written; the count is 0
-abbrev pub linesRows : List ℕ → List ℕ → List (Row Wrote)
+abbrev pub linesRows : List ℕ → List ℕ → List (Row Counted)
 linesRows text out = row 1 (length out < length text) (λ w. (w .count ≡ 0) × (w .bytes ≡ out)) ∷ []
 
 -- ---- poll
