@@ -19,19 +19,19 @@ use Rattle.negotiation.specs.Automaton as fsm
 use Rattle.phases.specs.Phases as phases
 use Rattle.link.specs.Frames as frames
 use Rattle.link.specs.Link as link
-use Rattle.worked.specs.Table.{Row, table}
+use Rattle.worked.specs.Table.{Example, table}
 
-abbrev allRight : List Row → Bool
+abbrev allRight : List Example → Bool
 allRight [] = true
 allRight (r ∷ rs) = sames.same (r .found) (r .wanted) && allRight rs
 
-rows-right : (rs : List Row) → T (allRight rs) → map (λ (r : Row). r .found) rs ≡ map (λ (r : Row). r .wanted) rs
+rows-right : (rs : List Example) → T (allRight rs) → map (λ (r : Example). r .found) rs ≡ map (λ (r : Example). r .wanted) rs
 rows-right [] t = refl
 rows-right (r ∷ rs) t =
     ap₂ (λ (h : List ℕ) (l : List (List ℕ)). h ∷ l)
     (same-eq (r .found) (r .wanted) (both-left (sames.same (r .found) (r .wanted)) (allRight rs) t))
     (rows-right rs (both-right (sames.same (r .found) (r .wanted)) (allRight rs) t))
 
-pub worked : map (λ (r : Row). r .found) table ≡ map (λ (r : Row). r .wanted) table
+pub worked : map (λ (r : Example). r .found) table ≡ map (λ (r : Example). r .wanted) table
 unfolding be.beFrom be.beBytes sames.same rfc.fcsBits rfc.fcs rfc.escaped rfc.unit rfc.stuffed rfc.frame reader.isGood reader.step reader.fed wire.pktOf options.walkIn options.walkFrom reply.listedOf reply.stepOf reply.replyOf fsm.requested fsm.reqWith fsm.reqOf proto.ownNacked proto.nacksOf fsm.nackWith fsm.nackOf fsm.ignoredTurn fsm.actOf fsm.handleOf fsm.openedFsm phases.receivedOf phases.establishOf phases.phaseOf phases.turnOf frames.frames link.answered link.packetPoll link.pollLink
 worked = rows-right table tt

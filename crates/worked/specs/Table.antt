@@ -20,11 +20,11 @@ use Rattle.link.specs.Link.{Poll, newLink, openLink, pollLink, actionNumber}
 use Rattle.link.specs.declared.pppos.PPPoSAction.{PPPoSAction}
 use Rattle.link.specs.declared.pppos.PPPoSAction.the-variants.{Idle, Received, Transmit, Declined}
 
-pub record Row : Type 0 where
+pub record Example : Type 0 where
   pub found : List ℕ
   pub wanted : List ℕ
 
-abbrev pub row : List ℕ → List ℕ → Row
+abbrev pub row : List ℕ → List ℕ → Example
 row f w = record { found = f; wanted = w }
 
 -- ---- a reader, shown as its state and the bytes kept
@@ -104,7 +104,7 @@ abbrev pub told : Outcome → List ℕ
 told Done = 0 ∷ []
 told (Refused why) = numberOf why ∷ valuesOf why
 
-abbrev pub table : List Row
+abbrev pub table : List Example
 table =
     -- K1, K2: the check value
     row (fcs 0xFFFF (0xFF ∷ []) ∷ []) (0x00FF ∷ [])
