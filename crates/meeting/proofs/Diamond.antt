@@ -44,18 +44,18 @@ module _ {Q : End → End → List ℕ → List ℕ → Type 0} where
   goes {b} a′ o {u} v f {g} p s t e = toA {b = b} {u = u} {v = v} {f = f} {g = g} p (rw (s, t) e)
 
 -- what is written by the end begins with what is written now
-pub record Whole (Q : End → End → List ℕ → List ℕ → Type 0) (f g : List ℕ) : Type 0 where
+pub record Continues (Q : End → End → List ℕ → List ℕ → Type 0) (f g : List ℕ) : Type 0 where
   pub a : End
   pub b : End
   pub moreA : List ℕ
   pub moreB : List ℕ
   pub good : Q a b (f ++ moreA) (g ++ moreB)
 
-pub whole : {Q : End → End → List ℕ → List ℕ → Type 0} {a b : End} {u v f g : List ℕ} → Ends Q a b u v f g → Whole Q f g
-whole (done {a} {b} {f} {g} r s q) = record { a = a; b = b; moreA = []; moreB = []; good = simp append-nil q }
-whole (toA {a = a} {x = x} {f = f} p e) =
-    let w = whole e in
+pub continues : {Q : End → End → List ℕ → List ℕ → Type 0} {a b : End} {u v f g : List ℕ} → Ends Q a b u v f g → Continues Q f g
+continues (done {a} {b} {f} {g} r s q) = record { a = a; b = b; moreA = []; moreB = []; good = simp append-nil q }
+continues (toA {a = a} {x = x} {f = f} p e) =
+    let w = continues e in
     record { a = w .a; b = w .b; moreA = says a x ++ w .moreA; moreB = w .moreB; good = simp (← append-assoc) (w .good) }
-whole (toB {b = b} {x = x} p e) =
-    let w = whole e in
+continues (toB {b = b} {x = x} p e) =
+    let w = continues e in
     record { a = w .a; b = w .b; moreA = w .moreA; moreB = says b x ++ w .moreB; good = simp (← append-assoc) (w .good) }

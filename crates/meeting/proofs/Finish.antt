@@ -16,7 +16,7 @@ use Rattle.phases.specs.declared.ppp.Ppp.{Ppp}
 use Rattle.link.specs.Frames.{everyByte, frames}
 use Rattle.meeting.specs.Calls.{End, Net, Exchange, start, atA, atB, steps}
 use Rattle.meeting.specs.Statement.{AllWritten, Learned, Met, Finishes}
-use Rattle.meeting.proofs.Diamond.{ended, whole}
+use Rattle.meeting.proofs.Diamond.{ended, continues}
 use Rattle.meeting.proofs.Ways.{Way, along, Spent, spent}
 use Rattle.meeting.proofs.Frames.{Told, Both}
 use Rattle.meeting.proofs.Start.{self}
@@ -62,7 +62,7 @@ told-narrow w more t = omega (arith, length-append w more, ap length (t .whole),
 
 pub written-narrow : {A B : Self} {z : Net} → Way (Both A B) z → length (z .fromA) + length (z .fromB) ≤ 684
 written-narrow {z = z} w =
-    let all = whole w in
+    let all = continues w in
     omega (arith, told-narrow (z .fromA) (all .moreA) (all .good .0), told-narrow (z .fromB) (all .moreB) (all .good .1))
 
 -- ---- to the end

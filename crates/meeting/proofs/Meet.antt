@@ -11,7 +11,7 @@ use Rattle.link.proofs.Reached.{dead-closed}
 use Rattle.meeting.specs.Calls.{End, Net, flip, begun, oneUnlessEmpty, steps}
 use Rattle.meeting.specs.Statement.{Side, TwoEndsMeet}
 use Rattle.meeting.proofs.Bytes.{hold}
-use Rattle.meeting.proofs.Diamond.{flipped, ended, whole}
+use Rattle.meeting.proofs.Diamond.{flipped, ended, continues}
 use Rattle.meeting.proofs.Ways.{no-more, Way, at-first, along, Spent, spent}
 use Rattle.meeting.proofs.Chat.{chat}
 use Rattle.meeting.proofs.Frames.{Told, Both, lower}
@@ -28,7 +28,7 @@ one (b ∷ c) h = omega arith
 side : {Q : End → End → List ℕ → List ℕ → Type 0} {x y : End} → ((a b : End) (f g : List ℕ) → Q a b f g → Told (self x) (self y) a f) → (z : Net) → Way Q z
     → Side x y z
 side told z w =
-    let all = whole w in
+    let all = continues w in
     record {
       unrefused = λ tx c rest room e. at-first z w tx c rest room e .unrefused;
       consumes = λ tx c rest room e h. omega (arith, at-first z w tx c rest room e .least, one c h);
