@@ -40,11 +40,11 @@ feed e b = joined (e .link .ppp) (step (hold e) b)
 abbrev pub turn : End → PppTurn
 turn e = turnOf (e .link .ppp) (packetOf (hold e))
 
-abbrev pub turned : End → End
-turned e = joined (turn e .ppp) (fetchedIn (hold e))
+abbrev pub turnedEnd : End → End
+turnedEnd e = joined (turn e .ppp) (fetchedIn (hold e))
 
 unfoldable pub stepped : End → ℕ → End
-stepped e b = cond (full (step (hold e) b)) (turned (feed e b)) (feed e b)
+stepped e b = cond (full (step (hold e) b)) (turnedEnd (feed e b)) (feed e b)
 
 unfoldable pub says : End → ℕ → List ℕ
 says e b = cond (full (step (hold e) b)) (frames (turn (feed e b) .sent)) []
@@ -79,7 +79,7 @@ module _ (e : End) (b : ℕ) where
   unfolding says
   says-quiet f = rw f
 
-  pub stepped-full : full (step (hold e) b) ≡ true → stepped e b ≡ turned (feed e b)
+  pub stepped-full : full (step (hold e) b) ≡ true → stepped e b ≡ turnedEnd (feed e b)
   unfolding stepped
   stepped-full f = rw f
 
@@ -125,7 +125,7 @@ module _ (e : End) (tx : List ℕ) (room : 795 ≤ length tx) (o : Outcome) (n :
         ap (behind o n) (hearing.poll-turns (e .link) tx (e .rx) (h .within) room f (h .long) i (h .done))
         ∙ behind-turned (e .link) tx (e .rx) (h .within) room o n (fetched (e .link .«frame_reader»)) (turn e) (h .plain)
 
-    pub replies : behind o n (pollLink (e .link) tx (e .rx)) ≡ fine (turned e) o n (frames (turn e .sent))
+    pub replies : behind o n (pollLink (e .link) tx (e .rx)) ≡ fine (turnedEnd e) o n (frames (turn e .sent))
     replies =
         let t = held (fetched (e .link .«frame_reader»)) (e .rx) in
         subst (λ (k : Bool). Replied (cond k t (hold e))) (sym f) (by-test (isIp (packetOf (hold e))) handed-out taken)
