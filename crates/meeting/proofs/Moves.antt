@@ -14,7 +14,7 @@ use Rattle.options.specs.Reply.{listedOf, stepOf, replyOf}
 use Rattle.negotiation.specs.Automaton.{nextId, requested, ackOf, reqWith, reqOf, nackWith, nackOf, termAckOf, ignoredTurn, echoOf, actOf, handleOf, rejectTurn, openedFsm}
 use Rattle.phases.specs.Phases.{pppTurned, rejectOf, receivedOf, establishOf, authOf, networkOf, phaseOf, openOf, pollOf, turnOf}
 use Rattle.phases.specs.Sound.{Calm}
-use Rattle.meeting.proofs.Says.{Self, selfOf, offer, heard, lcpPacket, hello, ask, grant, deny, lcpAt, ipAt, end, begun, answered, net, Small, Moves}
+use Rattle.meeting.proofs.Says.{Self, selfOf, offer, heard, lcpPacket, hello, ask, grant, deny, lcpAt, ipAt, end, begun, greeted, net, Small, Moves}
 use Rattle.options.specs.declared.lcp.AuthType.the-variants.{None}
 use Rattle.negotiation.specs.declared.states.State.the-variants.{Closed, ReqSent, AckReceived, AckSent, Opened}
 use Rattle.phases.specs.declared.ppp.Phase.the-variants.{Dead, Establish, Network, Open}
@@ -81,19 +81,19 @@ begun-calm : (X : Self) (m n : Bool) → Calm (begun X m n)
 unfolding opened
 begun-calm X m n = refl
 
-answered-calm : (X Y : Self) (m n : Bool) → Calm (answered X Y m n)
+greeted-calm : (X Y : Self) (m n : Bool) → Calm (greeted X Y m n)
 unfolding opened
-answered-calm X Y m n = refl
+greeted-calm X Y m n = refl
 
 -- an acknowledgement opens LCP, and IPv4CP asks
 lcp-ack : (X Y : Self) (m n : Bool) (i v : ℕ) (r : Bool)
-    → turnOf (answered X Y m n) (packetOf 0xC021 2 i (offer 2 v r)) ≡ pppTurned (net X Y Network (nextId (X .ipId)) ReqSent (X .peer) m n) (ask (nextId (X .ipId)) X m n ∷ [])
+    → turnOf (greeted X Y m n) (packetOf 0xC021 2 i (offer 2 v r)) ≡ pppTurned (net X Y Network (nextId (X .ipId)) ReqSent (X .peer) m n) (ask (nextId (X .ipId)) X m n ∷ [])
 unfolding opened
 lcp-ack X Y m n i v true = refl
 lcp-ack X Y m n i v false = refl
 
 module _ (X Y : Self) (m n : Bool) where
-  pub hears : Moves (begun X m n) (hello Y) (answered X Y m n) (lcpPacket 2 (nextId (Y .lcpId)) Y ∷ [])
+  pub hears : Moves (begun X m n) (hello Y) (greeted X Y m n) (lcpPacket 2 (nextId (Y .lcpId)) Y ∷ [])
   hears =
       record {
         calm = begun-calm X m n;
@@ -102,10 +102,10 @@ module _ (X Y : Self) (m n : Bool) where
         is = lcp-req X m n (nextId (Y .lcpId)) (Y .map) (Y .mapRej);
       }
 
-  pub enters : Moves (answered X Y m n) (lcpPacket 2 (nextId (X .lcpId)) X) (net X Y Network (nextId (X .ipId)) ReqSent (X .peer) m n) (ask (nextId (X .ipId)) X m n ∷ [])
+  pub enters : Moves (greeted X Y m n) (lcpPacket 2 (nextId (X .lcpId)) X) (net X Y Network (nextId (X .ipId)) ReqSent (X .peer) m n) (ask (nextId (X .ipId)) X m n ∷ [])
   enters =
       record {
-        calm = answered-calm X Y m n;
+        calm = greeted-calm X Y m n;
         small = lcp-small 2 (nextId (X .lcpId)) (X .map) (X .mapRej) (omega arith) (id-byte (X .lcpId));
         few = ip-small 1 (nextId (X .ipId)) (X .address) (X .dns1) (X .dns2) (X .addressRej) m n (omega arith) (id-byte (X .ipId));
         is = lcp-ack X Y m n (nextId (X .lcpId)) (X .map) (X .mapRej);

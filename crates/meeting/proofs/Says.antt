@@ -110,8 +110,8 @@ abbrev pub begun : Self → Bool → Bool → Ppp
 begun X m n = end X Establish (lcpAt X ReqSent (X .auth) (X .remote)) (ipAt X (X .ipId) Closed (X .peer) m n)
 
 -- after the peer's LCP request
-abbrev pub answered : Self → Self → Bool → Bool → Ppp
-answered X Y m n = end X Establish (lcpAt X AckSent None (heard (Y .map) (Y .mapRej) (X .remote))) (ipAt X (X .ipId) Closed (X .peer) m n)
+abbrev pub greeted : Self → Self → Bool → Bool → Ppp
+greeted X Y m n = end X Establish (lcpAt X AckSent None (heard (Y .map) (Y .mapRej) (X .remote))) (ipAt X (X .ipId) Closed (X .peer) m n)
 
 -- with LCP Opened: the phase, IPv4CP's id and state, the peer's address
 abbrev pub net : Self → Self → Phase → ℕ → State → ℕ → Bool → Bool → Ppp

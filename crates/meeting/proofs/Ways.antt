@@ -15,7 +15,7 @@ use Rattle.link.specs.Frames.{frames}
 use Rattle.link.specs.Link.{linkOf, pollLink}
 use Rattle.link.specs.declared.refusal.Outcome.{Outcome}
 use Rattle.link.specs.declared.refusal.Outcome.the-variants.{Done}
-use Rattle.meeting.specs.Calls.{End, Answer, behind, takes, Net, flip, answered, Exchange, start, atA, atB, oneUnlessEmpty, steps}
+use Rattle.meeting.specs.Calls.{End, Answer, behind, takes, Net, flip, passedOn, Exchange, start, atA, atB, oneUnlessEmpty, steps}
 use Rattle.meeting.specs.Statement.{Framed, Unrefused}
 use Rattle.meeting.proofs.Bytes.{hold, feed, turn, Rest, stepped-quiet, says-quiet, stepped-full, says-full, rests, replies}
 use Rattle.meeting.proofs.Diamond.{Ends, flipped, next, readable, resting}
@@ -88,7 +88,7 @@ pub at-first : {Q : End → End → List ℕ → List ℕ → Type 0} (m : Net) 
 at-first m w tx c rest room e = passed tx c rest room (rw e at w)
 
 step-way : {Q : End → End → List ℕ → List ℕ → Type 0} (m : Net) → Way Q m → (tx c rest : List ℕ) → 795 ≤ length tx → m .toA ≡ c ++ rest
-    → Way Q (answered m (takes (m .a) tx c))
+    → Way Q (passedOn m (takes (m .a) tx c))
 step-way m w tx c rest room e = rw e (at-first m w tx c rest room e .way)
 
 pub along : {Q : End → End → List ℕ → List ℕ → Type 0} {n m : Net} → Way Q n → Exchange n m → Way Q m
@@ -103,7 +103,7 @@ abbrev pub Spent : ℕ → Net → Type 0
 Spent k m = k + length (m .toA) + length (m .toB) ≤ length (m .fromA) + length (m .fromB)
 
 step-spent : {Q : End → End → List ℕ → List ℕ → Type 0} (k : ℕ) (m : Net) → Way Q m → (tx c rest : List ℕ) → 795 ≤ length tx → m .toA ≡ c ++ rest → Spent k m
-    → Spent (k + oneUnlessEmpty c) (answered m (takes (m .a) tx c))
+    → Spent (k + oneUnlessEmpty c) (passedOn m (takes (m .a) tx c))
 step-spent k m w tx c rest room e h =
     let p = at-first m w tx c rest room e in
     let got = takes (m .a) tx c in

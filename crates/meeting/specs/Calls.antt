@@ -73,8 +73,8 @@ abbrev pub flip : Net → Net
 flip n = record { a = n .b; b = n .a; toA = n .toB; toB = n .toA; fromA = n .fromB; fromB = n .fromA }
 
 -- a's answer: what it consumed is off its wire, what it wrote is on the other
-abbrev pub answered : Net → Answer → Net
-answered n r =
+abbrev pub passedOn : Net → Answer → Net
+passedOn n r =
     record { a = r .now; b = n .b; toA = drop (r .used) (n .toA); toB = n .toB ++ r .written; fromA = n .fromA ++ r .written; fromB = n .fromB }
 
 -- both wires are empty, and each end is opened and polled before a byte reaches it
@@ -92,8 +92,8 @@ begun x y tx tx′ =
 -- any calls: some first bytes of those on a wire, cut anywhere, with any transmit buffer of 795 bytes or more
 pub data Exchange (n : Net) : Net → Type 0 where
   start : Exchange n n
-  atA : {m : Net} → Exchange n m → (tx c rest : List ℕ) → 795 ≤ length tx → m .toA ≡ c ++ rest → Exchange n (answered m (takes (m .a) tx c))
-  atB : {m : Net} → Exchange n m → (tx c rest : List ℕ) → 795 ≤ length tx → m .toB ≡ c ++ rest → Exchange n (flip (answered (flip m) (takes (m .b) tx c)))
+  atA : {m : Net} → Exchange n m → (tx c rest : List ℕ) → 795 ≤ length tx → m .toA ≡ c ++ rest → Exchange n (passedOn m (takes (m .a) tx c))
+  atB : {m : Net} → Exchange n m → (tx c rest : List ℕ) → 795 ≤ length tx → m .toB ≡ c ++ rest → Exchange n (flip (passedOn (flip m) (takes (m .b) tx c)))
 
 abbrev pub oneUnlessEmpty : List ℕ → ℕ
 oneUnlessEmpty [] = 0

@@ -103,18 +103,18 @@ step-stepped : (r : Reply) (c : ℕ) (d : List ℕ)
 unfolding stepOf
 step-stepped r c d = rw (← judged-verdict (r .proto) c d) (stepped r _ _ c _)
 
-answered : (os : List Option) (r : Reply) (ls : List Option) → Typed os → Options (contentOf (r .packet)) ls
+reply-answered : (os : List Option) (r : Reply) (ls : List Option) → Typed os → Options (contentOf (r .packet)) ls
     → isDone (replyOf r (walkOptions os) .outcome) ≡ true
     → Answered (verdictOf (r .proto)) (r .verdict) ls os (replyOf r (walkOptions os))
 unfolding replyOf
-answered [] r ls y l d = record { up = omega arith; top = tt; laid = rw (eq-eqb _ _ refl, append-nil) l }
-answered (o ∷ os) r ls y l d =
+reply-answered [] r ls y l d = record { up = omega arith; top = tt; laid = rw (eq-eqb _ _ refl, append-nil) l }
+reply-answered (o ∷ os) r ls y l d =
     let s = stepOf r (o .type) (o .value) in
     let z = replyOf s (walkOptions os) in
     by-test (isDone (s .outcome))
     (λ t. rw t (extend _ o os r s z _ ls (y .0) (step-stepped r (o .type) (o .value)) t l
     (λ ms e m. subst (λ (f : ℕ → List ℕ → Verdict). Answered f (s .verdict) ms os z)
-    (ap verdictOf e ∙ judged-proto (r .proto) (o .type) (o .value)) (answered os s ms (y .1) m (rw t at d)))))
+    (ap verdictOf e ∙ judged-proto (r .proto) (o .type) (o .value)) (reply-answered os s ms (y .1) m (rw t at d)))))
     (λ t. absurd (true≢false (sym (rw t at d) ∙ t)))
 
 -- what the options change of the protocol, where none is refused
@@ -148,7 +148,7 @@ module _ (p : Proto) {s : List ℕ} {os : List Option} (l : Options s os) (d : i
   from-fresh : Answered (verdictOf p) Ack [] os (replyTo p s)
   from-fresh =
       let e = walk-options 0 l in
-      rw e (answered os (freshReply p) [] (options-typed l) (rw content-pkt none) (rw e at d))
+      rw e (reply-answered os (freshReply p) [] (options-typed l) (rw content-pkt none) (rw e at d))
 
   -- no option's verdict is higher than the reply's, and the reply holds those that have it
   pub reply-top : Top (verdictOf p) (replyTo p s .verdict) os
