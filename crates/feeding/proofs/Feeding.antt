@@ -13,7 +13,7 @@ use Rattle.laws.proofs.Cases.{by-test, cond-all}
 use Rattle.framing.proofs.Reader.{consumed-left}
 use Rattle.options.proofs.Walks.{rest}
 use Rattle.link.specs.Link.{Makes, Opens, heldBy, Consumes, pollLink, Polls}
-use Rattle.feeding.specs.Feed.{started, Run, runOf, turned, idleAfter, turns, fedLink, Feeds}
+use Rattle.feeding.specs.Feed.{started, turned, idleAfter, turns, fedLink, Feeds, Progress, progressOf}
 use Rattle.link.specs.declared.refusal.Outcome.{Outcome}
 use Rattle.link.specs.declared.choices.Choices.{Choices}
 use Rattle.link.specs.declared.pppos.PPPoS.{PPPoS}
@@ -28,7 +28,7 @@ start-polls tx rx n o p = rw (o .link, n .link) at p
 -- ---- a turn
 
 pub turn-feeds : {l l′ l″ : PPPoS} {tx′ rx rx′ rx″ bs : List ℕ} {o : Outcome} {n : ℕ} {a : PPPoSAction} (tx : List ℕ)
-    → Consumes l rx bs o n l′ rx′ → Polls (pollLink l′ tx rx′) a l″ tx′ rx″ → Feeds (turned (runOf l tx rx bs)) bs n l″ tx′ rx″
+    → Consumes l rx bs o n l′ rx′ → Polls (pollLink l′ tx rx′) a l″ tx′ rx″ → Feeds (turned (progressOf l tx rx bs)) bs n l″ tx′ rx″
 unfolding turned
 turn-feeds tx e p =
     record {
@@ -38,26 +38,26 @@ turn-feeds tx e p =
       receive = rw (e .link, e .bytes) at (p .receive);
     }
 
-left-is : (s : Run) → turned s .left ≡ drop (length (s .left) - length (turned s .left)) (s .left)
+left-is : (s : Progress) → turned s .left ≡ drop (length (s .left) - length (turned s .left)) (s .left)
 unfolding turned
 left-is s = consumed-left (heldBy (s .link) (s .rx)) (s .left)
 
-left-le : (s : Run) → length (turned s .left) ≤ length (s .left)
+left-le : (s : Progress) → length (turned s .left) ≤ length (s .left)
 left-le s = omega (arith, simp length-drop at (ap length (left-is s)))
 
 -- ---- turns
 
 -- a run that goes to the run end, with enough turns left
-pub record Ahead (idle : ℕ) (s end : Run) : Type 0 where
+pub record Ahead (idle : ℕ) (s end : Progress) : Type 0 where
   pub fuel : ℕ
   pub enough : 2 * length (s .left) + 2 ≤ fuel + idle
   pub same : turns fuel idle s ≡ end
 
-pub starts : (l : PPPoS) (tx rx bs : List ℕ) → Ahead 0 (runOf l tx rx bs) (fedLink l tx rx bs)
+pub starts : (l : PPPoS) (tx rx bs : List ℕ) → Ahead 0 (progressOf l tx rx bs) (fedLink l tx rx bs)
 unfolding fedLink
 starts l tx rx bs = record { fuel = 2 * length bs + 2; enough = omega arith; same = refl }
 
-goes-on : (idle : ℕ) (s : Run) {end : Run} → 0 < length (s .left) → idle < 2 → (k : ℕ) → turns (suc k) idle s ≡ end
+goes-on : (idle : ℕ) (s : Progress) {end : Progress} → 0 < length (s .left) → idle < 2 → (k : ℕ) → turns (suc k) idle s ≡ end
     → turns k (idleAfter idle (length (s .left) - length (turned s .left))) (turned s) ≡ end
 unfolding turns
 goes-on idle s h i k e =
@@ -71,7 +71,7 @@ idle-enough idle m m′ k h l i e =
     (λ z. rw z (omega (arith, eqb-false (m - m′) 0 z)))
 
 -- one turn on
-ahead-next : (idle : ℕ) (s : Run) {end : Run} → 0 < length (s .left) → idle < 2 → Ahead idle s end
+ahead-next : (idle : ℕ) (s : Progress) {end : Progress} → 0 < length (s .left) → idle < 2 → Ahead idle s end
     → Ahead (idleAfter idle (length (s .left) - length (turned s .left))) (turned s) end
 ahead-next idle s {end} h i a = go (a .fuel) (a .enough) (a .same)
   where
@@ -82,7 +82,7 @@ ahead-next idle s {end} h i a = go (a .fuel) (a .enough) (a .same)
         record { fuel = k; enough = idle-enough idle (length (s .left)) (length (turned s .left)) k h (left-le s) i e; same = goes-on idle s h i k g }
 
 -- where nothing is left, or two turns took nothing, it is at its end
-ahead-end : (idle : ℕ) (s : Run) {end : Run} → (0 < length (s .left) → 2 ≤ idle) → Ahead idle s end → s ≡ end
+ahead-end : (idle : ℕ) (s : Progress) {end : Progress} → (0 < length (s .left) → 2 ≤ idle) → Ahead idle s end → s ≡ end
 unfolding turns
 ahead-end idle s {end} h a = go (a .fuel) (a .same)
   where
@@ -96,22 +96,22 @@ ahead-end idle s {end} h a = go (a .fuel) (a .same)
 -- ---- the loop: at bytes of src are taken
 
 module _ (src : List ℕ) (at : ℕ) where
-  pub within : {n : ℕ} {s : Run} {l : PPPoS} {tx rx : List ℕ} → at ≤ length src → Feeds s (take (length src - at) (drop at src)) n l tx rx → at + n ≤ length src
+  pub within : {n : ℕ} {s : Progress} {l : PPPoS} {tx rx : List ℕ} → at ≤ length src → Feeds s (take (length src - at) (drop at src)) n l tx rx → at + n ≤ length src
   within h f = omega (arith, f .count, ap length (rest src at), length-drop at src)
 
-  pub again : {idle n : ℕ} {l l′ : PPPoS} {tx tx′ rx rx′ : List ℕ} {end : Run} → at < length src → idle < 2
-      → Ahead idle (runOf l tx rx (drop at src)) end
-      → Feeds (turned (runOf l tx rx (take (length src - at) (drop at src)))) (take (length src - at) (drop at src)) n l′ tx′ rx′
-      → Ahead (idleAfter idle n) (runOf l′ tx′ rx′ (drop (at + n) src)) end
+  pub again : {idle n : ℕ} {l l′ : PPPoS} {tx tx′ rx rx′ : List ℕ} {end : Progress} → at < length src → idle < 2
+      → Ahead idle (progressOf l tx rx (drop at src)) end
+      → Feeds (turned (progressOf l tx rx (take (length src - at) (drop at src)))) (take (length src - at) (drop at src)) n l′ tx′ rx′
+      → Ahead (idleAfter idle n) (progressOf l′ tx′ rx′ (drop (at + n) src)) end
   again {idle} {l = l} {tx = tx} {rx = rx} h i a f =
-      let s = runOf l tx rx (drop at src) in
+      let s = progressOf l tx rx (drop at src) in
       let g = rw (rest src at) at f in
       rw (← drop-drop, g .link, g .transmit, g .receive, g .count, ← left-is s) (ahead-next idle s (rw length-drop (omega arith)) i a)
 
-  pub finished : {idle : ℕ} {l : PPPoS} {tx rx : List ℕ} {end : Run} → at ≤ length src → (at < length src → 2 ≤ idle)
-      → Ahead idle (runOf l tx rx (drop at src)) end → Feeds end src at l tx rx
+  pub finished : {idle : ℕ} {l : PPPoS} {tx rx : List ℕ} {end : Progress} → at ≤ length src → (at < length src → 2 ≤ idle)
+      → Ahead idle (progressOf l tx rx (drop at src)) end → Feeds end src at l tx rx
   finished {idle} {l} {tx} {rx} h i a =
-      rw (← ahead-end idle (runOf l tx rx (drop at src)) (λ z. i (omega (arith, length-drop at src))) a)
+      rw (← ahead-end idle (progressOf l tx rx (drop at src)) (λ z. i (omega (arith, length-drop at src))) a)
       (record { count = rw length-drop (omega arith); link = refl; transmit = refl; receive = refl })
 
 pub fewer : (m at idle n : ℕ) → at < m → at + n ≤ m → idle < 2 → 2 * (m - (at + n)) + (2 - idleAfter idle n) < 2 * (m - at) + (2 - idle)

@@ -4,9 +4,9 @@ use mathlib.Core.Path.{_≡_, sym, _∙_}
 use mathlib.Core.List.{List}
 use Prim.Native.Nat.{ℕ}
 use Rattle.link.specs.declared.pppos.PPPoS.{PPPoS}
-use Rattle.feeding.specs.Feed.{Run, Feeds}
+use Rattle.feeding.specs.Feed.{Progress, Feeds}
 
-pub feeds-one : {s : Run} {bs tx₁ tx₂ rx₁ rx₂ : List ℕ} {n₁ n₂ : ℕ} {l₁ l₂ : PPPoS}
+pub feeds-one : {s : Progress} {bs tx₁ tx₂ rx₁ rx₂ : List ℕ} {n₁ n₂ : ℕ} {l₁ l₂ : PPPoS}
     → Feeds s bs n₁ l₁ tx₁ rx₁ → Feeds s bs n₂ l₂ tx₂ rx₂ → (n₁ ≡ n₂) × (l₁ ≡ l₂) × (tx₁ ≡ tx₂) × (rx₁ ≡ rx₂)
 feeds-one a b =
     (a .count ∙ sym (b .count), a .link ∙ sym (b .link), a .transmit ∙ sym (b .transmit), a .receive ∙ sym (b .receive))

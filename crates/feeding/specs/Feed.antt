@@ -15,31 +15,31 @@ unfoldable pub started : Choices → List ℕ → List ℕ → Poll
 started c tx rx = pollLink (openLink (newLink [] [] c)) tx rx
 
 -- the link, both buffers, and the bytes that are not taken yet
-pub record Run : Type 0 where
+pub record Progress : Type 0 where
   pub link : PPPoS
   pub tx : List ℕ
   pub rx : List ℕ
   pub left : List ℕ
 
-abbrev pub runOf : PPPoS → List ℕ → List ℕ → List ℕ → Run
-runOf l tx rx bs = record { link = l; tx = tx; rx = rx; left = bs }
+abbrev pub progressOf : PPPoS → List ℕ → List ℕ → List ℕ → Progress
+progressOf l tx rx bs = record { link = l; tx = tx; rx = rx; left = bs }
 
-abbrev pub polledRun : Poll → List ℕ → Run
-polledRun p left = record { link = p .link; tx = p .tx; rx = p .rx; left = left }
+abbrev pub polledProgress : Poll → List ℕ → Progress
+polledProgress p left = record { link = p .link; tx = p .tx; rx = p .rx; left = left }
 
-abbrev pub consumedRun : Fed → Run → Run
-consumedRun f s = polledRun (pollLink (linkOf (f .now .reader) (s .link .ppp)) (s .tx) (f .now .buf)) (f .left)
+abbrev pub consumedProgress : Fed → Progress → Progress
+consumedProgress f s = polledProgress (pollLink (linkOf (f .now .reader) (s .link .ppp)) (s .tx) (f .now .buf)) (f .left)
 
 -- one consume, one poll
-unfoldable pub turned : Run → Run
-turned s = consumedRun (consumed (heldBy (s .link) (s .rx)) (s .left)) s
+unfoldable pub turned : Progress → Progress
+turned s = consumedProgress (consumed (heldBy (s .link) (s .rx)) (s .left)) s
 
 -- how many turns in a row took nothing, behind one that took n bytes
 abbrev pub idleAfter : ℕ → ℕ → ℕ
 idleAfter idle n = cond (eqb n 0) (idle + 1) 0
 
 -- at most k turns, until all is taken or two in a row took nothing
-unfoldable pub turns : ℕ → ℕ → Run → Run
+unfoldable pub turns : ℕ → ℕ → Progress → Progress
 turns zero idle s = s
 turns (suc k) idle s =
     cond (eqb (length (s .left)) 0 || leb 2 idle)
@@ -47,11 +47,11 @@ turns (suc k) idle s =
     (turns k (idleAfter idle (length (s .left) - length (turned s .left))) (turned s))
 
 -- every second turn takes a byte, so that many turns are enough
-unfoldable pub fedLink : PPPoS → List ℕ → List ℕ → List ℕ → Run
-fedLink l tx rx bs = turns (2 * length bs + 2) 0 (runOf l tx rx bs)
+unfoldable pub fedLink : PPPoS → List ℕ → List ℕ → List ℕ → Progress
+fedLink l tx rx bs = turns (2 * length bs + 2) 0 (progressOf l tx rx bs)
 
 -- what stands after a run of the bytes bs: the count of those taken, the link, and both buffers
-pub record Feeds (s : Run) (bs : List ℕ) (n : ℕ) (l : PPPoS) (tx rx : List ℕ) : Type 0 where
+pub record Feeds (s : Progress) (bs : List ℕ) (n : ℕ) (l : PPPoS) (tx rx : List ℕ) : Type 0 where
   pub count : n ≡ length bs - length (s .left)
   pub link : l ≡ s .link
   pub transmit : tx ≡ s .tx

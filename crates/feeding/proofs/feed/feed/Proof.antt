@@ -4,14 +4,14 @@ use native.Mathlib.Omega.{arith}
 use mathlib.Core.Path.{_≡_, refl}
 use Prim.Native.Nat.{_+_, _-_, _*_, _≤_}
 use lib.ListN.{length, drop}
-use Rattle.feeding.specs.Feed.{runOf, fedLink}
+use Rattle.feeding.specs.Feed.{progressOf, fedLink}
 use Rattle.feeding.proofs.feed.feed.Statement.{statement}
 use Rattle.feeding.proofs.feed.feed.Tie as tie
 
 abbrev Inv-loop : tie.InvT-loop
 Inv-loop tx₀ rx₀ src l₀ at₀ idle₀ tx rx l at idle =
     (at ≤ length src) × (idle ≤ 2) × (length tx ≡ length tx₀) × (length rx ≡ length rx₀)
-    × Ahead idle (runOf l tx rx (drop at src)) (fedLink l₀ tx₀ rx₀ src)
+    × Ahead idle (progressOf l tx rx (drop at src)) (fedLink l₀ tx₀ rx₀ src)
 
 abbrev μ-loop : tie.MeasureT-loop
 μ-loop tx₀ rx₀ src l₀ at₀ idle₀ tx rx l at idle = 2 * (length src - at) + (2 - idle)
