@@ -13,7 +13,7 @@ use Rattle.laws.proofs.Cases.{by-test, cond-all}
 use Rattle.framing.proofs.Reader.{consumed-left}
 use Rattle.options.proofs.Walks.{rest}
 use Rattle.link.specs.Link.{Makes, Opens, heldBy, Consumes, pollLink, Polls}
-use Rattle.feeding.specs.Feed.{started, turned, idleAfter, turns, fedLink, Feeds, Progress, progressOf}
+use Rattle.feeding.specs.Feed.{started, idleAfter, turns, fedLink, Feeds, Progress, progressOf, oneTurn}
 use Rattle.link.specs.declared.refusal.Outcome.{Outcome}
 use Rattle.link.specs.declared.choices.Choices.{Choices}
 use Rattle.link.specs.declared.pppos.PPPoS.{PPPoS}
@@ -28,8 +28,8 @@ start-polls tx rx n o p = rw (o .link, n .link) at p
 -- ---- a turn
 
 pub turn-feeds : {l l′ l″ : PPPoS} {tx′ rx rx′ rx″ bs : List ℕ} {o : Outcome} {n : ℕ} {a : PPPoSAction} (tx : List ℕ)
-    → Consumes l rx bs o n l′ rx′ → Polls (pollLink l′ tx rx′) a l″ tx′ rx″ → Feeds (turned (progressOf l tx rx bs)) bs n l″ tx′ rx″
-unfolding turned
+    → Consumes l rx bs o n l′ rx′ → Polls (pollLink l′ tx rx′) a l″ tx′ rx″ → Feeds (oneTurn (progressOf l tx rx bs)) bs n l″ tx′ rx″
+unfolding oneTurn
 turn-feeds tx e p =
     record {
       count = e .count;
@@ -38,11 +38,11 @@ turn-feeds tx e p =
       receive = rw (e .link, e .bytes) at (p .receive);
     }
 
-left-is : (s : Progress) → turned s .left ≡ drop (length (s .left) - length (turned s .left)) (s .left)
-unfolding turned
+left-is : (s : Progress) → oneTurn s .left ≡ drop (length (s .left) - length (oneTurn s .left)) (s .left)
+unfolding oneTurn
 left-is s = consumed-left (heldBy (s .link) (s .rx)) (s .left)
 
-left-le : (s : Progress) → length (turned s .left) ≤ length (s .left)
+left-le : (s : Progress) → length (oneTurn s .left) ≤ length (s .left)
 left-le s = omega (arith, simp length-drop at (ap length (left-is s)))
 
 -- ---- turns
@@ -58,7 +58,7 @@ unfolding fedLink
 starts l tx rx bs = record { fuel = 2 * length bs + 2; enough = omega arith; same = refl }
 
 goes-on : (idle : ℕ) (s : Progress) {end : Progress} → 0 < length (s .left) → idle < 2 → (k : ℕ) → turns (suc k) idle s ≡ end
-    → turns k (idleAfter idle (length (s .left) - length (turned s .left))) (turned s) ≡ end
+    → turns k (idleAfter idle (length (s .left) - length (oneTurn s .left))) (oneTurn s) ≡ end
 unfolding turns
 goes-on idle s h i k e =
     let f : eqb (length (s .left)) 0 ≡ false = ne-eqb (length (s .left)) 0 (λ z. omega arith) in
@@ -72,14 +72,14 @@ idle-enough idle m m′ k h l i e =
 
 -- one turn on
 ahead-next : (idle : ℕ) (s : Progress) {end : Progress} → 0 < length (s .left) → idle < 2 → Ahead idle s end
-    → Ahead (idleAfter idle (length (s .left) - length (turned s .left))) (turned s) end
+    → Ahead (idleAfter idle (length (s .left) - length (oneTurn s .left))) (oneTurn s) end
 ahead-next idle s {end} h i a = go (a .fuel) (a .enough) (a .same)
   where
     go : (k : ℕ) → 2 * length (s .left) + 2 ≤ k + idle → turns k idle s ≡ end
-        → Ahead (idleAfter idle (length (s .left) - length (turned s .left))) (turned s) end
+        → Ahead (idleAfter idle (length (s .left) - length (oneTurn s .left))) (oneTurn s) end
     go zero e g = absurd (omega arith)
     go (suc k) e g =
-        record { fuel = k; enough = idle-enough idle (length (s .left)) (length (turned s .left)) k h (left-le s) i e; same = goes-on idle s h i k g }
+        record { fuel = k; enough = idle-enough idle (length (s .left)) (length (oneTurn s .left)) k h (left-le s) i e; same = goes-on idle s h i k g }
 
 -- where nothing is left, or two turns took nothing, it is at its end
 ahead-end : (idle : ℕ) (s : Progress) {end : Progress} → (0 < length (s .left) → 2 ≤ idle) → Ahead idle s end → s ≡ end
@@ -101,7 +101,7 @@ module _ (src : List ℕ) (at : ℕ) where
 
   pub again : {idle n : ℕ} {l l′ : PPPoS} {tx tx′ rx rx′ : List ℕ} {end : Progress} → at < length src → idle < 2
       → Ahead idle (progressOf l tx rx (drop at src)) end
-      → Feeds (turned (progressOf l tx rx (take (length src - at) (drop at src)))) (take (length src - at) (drop at src)) n l′ tx′ rx′
+      → Feeds (oneTurn (progressOf l tx rx (take (length src - at) (drop at src)))) (take (length src - at) (drop at src)) n l′ tx′ rx′
       → Ahead (idleAfter idle n) (progressOf l′ tx′ rx′ (drop (at + n) src)) end
   again {idle} {l = l} {tx = tx} {rx = rx} h i a f =
       let s = progressOf l tx rx (drop at src) in

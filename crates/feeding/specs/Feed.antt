@@ -31,8 +31,8 @@ abbrev pub consumedProgress : Fed → Progress → Progress
 consumedProgress f s = polledProgress (pollLink (linkOf (f .now .reader) (s .link .ppp)) (s .tx) (f .now .buf)) (f .left)
 
 -- one consume, one poll
-unfoldable pub turned : Progress → Progress
-turned s = consumedProgress (consumed (heldBy (s .link) (s .rx)) (s .left)) s
+unfoldable pub oneTurn : Progress → Progress
+oneTurn s = consumedProgress (consumed (heldBy (s .link) (s .rx)) (s .left)) s
 
 -- how many turns in a row took nothing, behind one that took n bytes
 abbrev pub idleAfter : ℕ → ℕ → ℕ
@@ -44,7 +44,7 @@ turns zero idle s = s
 turns (suc k) idle s =
     cond (eqb (length (s .left)) 0 || leb 2 idle)
     s
-    (turns k (idleAfter idle (length (s .left) - length (turned s .left))) (turned s))
+    (turns k (idleAfter idle (length (s .left) - length (oneTurn s .left))) (oneTurn s))
 
 -- every second turn takes a byte, so that many turns are enough
 unfoldable pub fedLink : PPPoS → List ℕ → List ℕ → List ℕ → Progress

@@ -2,7 +2,7 @@
 ghost use mathlib.Core.Path.{_≡_};
 ghost use Prim.Native.Nat.{_<_};
 ghost use Rattle.link.specs.Link.{Polls};
-ghost use Rattle.feeding.specs.Feed.{started, turned, idleAfter, fedLink, Feeds, progressOf};
+ghost use Rattle.feeding.specs.Feed.{started, idleAfter, fedLink, Feeds, progressOf, oneTurn};
 use link::choices::Choices;
 use link::pppos::PPPoS;
 use link::pppos::Polled;
@@ -24,7 +24,7 @@ pub fn start(choices: Choices, tx: &mut [u8], rx: &mut [u8]) -> Polled
 }
 
 fn turn(link: PPPoS, tx: &mut [u8], rx: &mut [u8], src: &[u8]) -> Fed
-    ensures { λ r. ⌜ Feeds (turned (progressOf link (now (tx .entry)) (now (rx .entry)) (now (src .entry)))) (now (src .entry)) (r .count) (r .link) (now (tx .exit)) (now (rx .exit)) ⌝ }
+    ensures { λ r. ⌜ Feeds (oneTurn (progressOf link (now (tx .entry)) (now (rx .entry)) (now (src .entry)))) (now (src .entry)) (r .count) (r .link) (now (tx .exit)) (now (rx .exit)) ⌝ }
 {
     let c = link.consume(src, rx);
     let count = c.count;
