@@ -25,7 +25,7 @@ use Rattle.options.specs.Options.{walkOf}
 use Rattle.options.specs.Proto.{protocolOf, startOf, ownOf, nacksOf}
 use Rattle.options.specs.Reply.{freshReply, replyOf}
 use Rattle.negotiation.specs.Automaton.{afterAcked, afterNotAcked, afterReq, afterAck, ackResends, afterNack, afterTerm, isClosed, isOpened, Turn, turned, refusedTurn, withState, nextId, requestBytes, requested, ackOf, afterReply, repliedTurn, unless, reqWith, reqOf, afterNacked, nackWith, nackOf, termAckOf, actOf}
-use Rattle.negotiation.specs.StateTable.{Event, reqAcked, reqNotAcked, ack, nackOrRej, terminate, Row, row, table}
+use Rattle.negotiation.specs.StateTable.{Event, reqAcked, reqNotAcked, ack, nackOrRej, terminate, Transition, row, table}
 
 abbrev pub afterOf : Event → State → State
 afterOf reqAcked = afterAcked
@@ -42,10 +42,10 @@ asksOf nackOrRej s = not (isClosed s)
 asksOf terminate s = false
 
 -- the rows that the definitions give for an event
-abbrev rowsOf : Event → List Row
+abbrev rowsOf : Event → List Transition
 rowsOf e = map (λ s. row e s (afterOf e s) (asksOf e s)) (Closed ∷ ReqSent ∷ AckReceived ∷ AckSent ∷ Opened ∷ [])
 
-abbrev rowsFor : List Event → List Row
+abbrev rowsFor : List Event → List Transition
 rowsFor [] = []
 rowsFor (e ∷ es) = rowsOf e ++ rowsFor es
 
@@ -158,7 +158,7 @@ module _ (f : OptionFsm) (i : ℕ) (p : List ℕ) where
   leaves-goes e t terminateIn = closed-goes terminate _ (λ _. term-goes)
 
 -- a packet of the row's event, in the state it starts from and not refused, does what the row says
-abbrev pub Holds : Row → Type 0
+abbrev pub Holds : Transition → Type 0
 Holds r =
     (f : OptionFsm) (i : ℕ) (p : List ℕ) (t : Turn) → f .state ≡ r .from → Leaves f i p (r .event) t → t .outcome ≡ Done → Moved f (r .to) (r .asks) t
 

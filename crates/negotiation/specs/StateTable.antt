@@ -12,17 +12,17 @@ pub data Event : Type 0 where
   nackOrRej : Event
   terminate : Event
 
-pub record Row : Type 0 where
+pub record Transition : Type 0 where
   pub event : Event
   pub from : State
   pub to : State
   pub asks : Bool
 
-abbrev pub row : Event → State → State → Bool → Row
+abbrev pub row : Event → State → State → Bool → Transition
 row e s t asks = record { event = e; from = s; to = t; asks = asks }
 
 -- Closed answers anything with TerminateAck, and stays
-abbrev pub table : List Row
+abbrev pub table : List Transition
 table =
     -- Ack takes ReqSent to AckSent, AckReceived to Opened, Opened to AckSent; from Opened an own request follows
     row reqAcked Closed Closed false
