@@ -21,14 +21,14 @@ uncut true x c n e = apart (cc)
 uncut false x c n e = (refl, e)
 
 -- an option that is not cut: its code and length, as they stand in two bytes at least
-pub record Whole (s : List ℕ) (c n : ℕ) : Type 0 where
+pub record Uncut (s : List ℕ) (c n : ℕ) : Type 0 where
   pub head : 2 ≤ length s
   pub code : getD s 0 0 ≡ c
   pub size : getD s 1 0 ≡ n
   pub least : 2 ≤ n
   pub most : n ≤ length s
 
-pub option-whole : (s : List ℕ) (c n : ℕ) → optionOf s ≡ Opt c n → Whole s c n
+pub option-whole : (s : List ℕ) (c n : ℕ) → optionOf s ≡ Opt c n → Uncut s c n
 option-whole s c n e =
     let x : Parsed = Opt (getD s 0 0) (getD s 1 0) in
     let y : Parsed = cond (ltb (getD s 1 0) 2) Cut x in

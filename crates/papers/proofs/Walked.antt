@@ -16,7 +16,7 @@ use Rattle.options.specs.declared.walk.Parsed.{Parsed}
 use Rattle.options.specs.declared.walk.Parsed.the-variants.{Opt, Cut}
 use Rattle.papers.specs.Rfc1661.{Option, Options, none, more}
 use Rattle.options.specs.Options.{optionOf, Walk, done, cut, opt, walkFrom, walkOf}
-use Rattle.options.proofs.Walks.{Whole, option-whole, walk-done, walk-cut, walk-opt}
+use Rattle.options.proofs.Walks.{Uncut, option-whole, walk-done, walk-cut, walk-opt}
 use Rattle.papers.proofs.Layouts1661.{optionAs}
 
 -- ---- a list of the paper is walked to its end
@@ -50,7 +50,7 @@ walk-options at (more {bytes} o g h p) =
 -- ---- what is walked to its end is a list of the paper
 
 -- a list by its first option
-split : (s : List ℕ) (c n : ℕ) → Whole s c n → s ≡ c ∷ n ∷ (take (n - 2) (drop 2 s) ++ drop n s)
+split : (s : List ℕ) (c n : ℕ) → Uncut s c n → s ≡ c ∷ n ∷ (take (n - 2) (drop 2 s) ++ drop n s)
 split [] c n w = absurd (omega (arith, w .head))
 split (a ∷ []) c n w = absurd (omega (arith, w .head))
 split (a ∷ b ∷ r) c n w =
