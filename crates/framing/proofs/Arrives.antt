@@ -13,7 +13,7 @@ use Rattle.laws.specs.Each.{Without}
 use Rattle.laws.specs.Quiet.{Quiet}
 use Rattle.laws.proofs.Quiet.{quiet-step, quiet-last}
 use Rattle.framing.specs.Rfc1662.{unescaped, aborted, fields, stuffed, frame}
-use Rattle.framing.specs.Reader.{isCrate, isComplete, freshReader, moved, Held, held, step, full, packetOf, fed}
+use Rattle.framing.specs.Reader.{isCrate, isComplete, freshReader, next, moved, Held, held, step, full, packetOf, fed}
 use Rattle.framing.specs.Heard.{fetchedIn, Heard, heard}
 use Rattle.framing.specs.Arrives.{Idle, Arrives}
 use Rattle.framing.specs.Paper.{doubled}
@@ -43,10 +43,10 @@ module _ {s : Held} (idle : Idle s) where
   idle-empty = ⊎-elim (λ e. ap isComplete e) (λ e. ap isComplete e) (idle .between)
 
   pub starts : s .reader .state ≡ Start → s ≡ held (freshReader (s .reader .reading)) (s .buf)
-  starts e = λ i. held (record { state = e i; escape = idle .clear i; len = idle .empty i; reading = s .reader .reading }) (s .buf)
+  starts e = λ i. held (next (s .reader) (e i) (idle .clear i) (idle .empty i)) (s .buf)
 
   pub waits : s .reader .state ≡ Address → s ≡ waiting (s .reader .reading) (s .buf)
-  waits e = λ i. held (record { state = e i; escape = idle .clear i; len = idle .empty i; reading = s .reader .reading }) (s .buf)
+  waits e = λ i. held (next (s .reader) (e i) (idle .clear i) (idle .empty i)) (s .buf)
 
   -- a flag, from either state
   pub flag-read : step s 0x7E ≡ waiting (s .reader .reading) (s .buf)

@@ -6,9 +6,9 @@ use mathlib.Core.Bool.{true, false, and-false, false≢true}
 use mathlib.Core.List.{List, [], _∷_}
 use Prim.Native.Nat.{ℕ}
 use lib.Dec.{ltb, eqb}
-use lib.ListN.{length, take}
+use lib.ListN.{length}
 use Rattle.laws.proofs.Cases.{cond-by, cond-all}
-use Rattle.framing.specs.Reader.{isComplete, isGood, freshReader, moved, marks, escapeAfter, ended, Held, held, stepBy, step, full, Fed, fed, isShort, consumed, Consumes, Receives}
+use Rattle.framing.specs.Reader.{isComplete, freshReader, moved, marks, escapeAfter, faultOf, isGood, ended, Held, held, stepBy, step, full, Fed, fed, isShort, consumed, Consumes, Receives}
 use Rattle.framing.specs.Clean.{EndsClean, CleanIn, Clean}
 use Rattle.framing.specs.declared.refusal.Outcome.{Outcome}
 use Rattle.framing.specs.declared.frame_reader.State.{State}
@@ -25,7 +25,7 @@ module _ (r : FrameReader) (standard : r .reading ≡ Standard) where
 
   end-clean : (buf : List ℕ) → EndsClean (held r buf) (held (ended r buf) buf)
   end-clean buf =
-      cond-by (λ (t : FrameReader). EndsClean (held r buf) (held t buf)) (isGood (take (r .len) buf))
+      cond-by (λ (t : FrameReader). EndsClean (held r buf) (held t buf)) (isGood (faultOf r buf))
       (λ g. record { judged = sym g; cleared = escape-cleared; kept = refl })
       (λ g. record { judged = sym g; cleared = escape-cleared; kept = rw standard })
 
@@ -46,7 +46,7 @@ module _ (s : Held) (b : ℕ) (h : Clean (s .reader)) where
   ends : Clean (ended (s .reader) (s .buf))
   ends =
       let cleared = escape-cleared (s .reader) (h .standard) in
-      cond-all Clean (isGood (take (s .reader .len) (s .buf)))
+      cond-all Clean (isGood (faultOf (s .reader) (s .buf)))
       (record { standard = h .standard; clean = cleared })
       (record { standard = h .standard; clean = (cleared, rw (h .standard)) })
 

@@ -18,14 +18,14 @@ use Rattle.laws.proofs.Cases.{by-le, neither}
 use Rattle.laws.proofs.Quiet.{quiet-step}
 use Rattle.laws.proofs.Stores.{take-sets}
 use Rattle.framing.specs.Rfc1662.{unescaped, aborted}
-use Rattle.framing.specs.Reader.{isCrate, isGood, freshReader, Held, held, stored, step, full}
+use Rattle.framing.specs.Reader.{isCrate, freshReader, next, faultIn, isGood, Held, held, stored, step, full}
 use Rattle.framing.specs.Paper.{doubled}
 use Rattle.framing.specs.declared.frame_reader.State.the-variants.{Address, Data, Complete}
 use Rattle.framing.specs.declared.frame_reader.Reading.{Reading}
 
 -- inside a frame, n bytes kept
 abbrev pub inside : Reading → Bool → ℕ → List ℕ → Held
-inside k e n buf = held (record { state = Data; escape = e; len = n; reading = k }) buf
+inside k e n buf = held (next (freshReader k) Data e n) buf
 
 -- ---- one byte that is no flag
 
@@ -123,17 +123,17 @@ module _ (k : Reading) (e : Bool) (w : List ℕ) (n : ℕ) (buf : List ℕ) (noF
 
 -- the reader that keeps a good frame
 abbrev pub whole : Reading → List ℕ → List ℕ → Held
-whole k l buf = held (record { state = Complete; escape = false; len = length l; reading = k }) (sets buf 0 l)
+whole k l buf = held (next (freshReader k) Complete false (length l)) (sets buf 0 l)
 
 module _ (k : Reading) (l buf : List ℕ) (room : length l ≤ length buf) where
   kept : take (length l) (sets buf 0 l) ≡ l
   kept = rw zero-add at (take-sets l buf 0 (simp zero-add room))
 
-  pub closes : isGood l ≡ true → step (inside k false (length l) (sets buf 0 l)) 0x7E ≡ whole k l buf
+  pub closes : isGood (faultIn l) ≡ true → step (inside k false (length l) (sets buf 0 l)) 0x7E ≡ whole k l buf
   unfolding step
   closes e = rw (kept, e)
 
-  pub closes-bad : isGood l ≡ false → step (inside k false (length l) (sets buf 0 l)) 0x7E
-      ≡ held (record { state = Address; escape = false; len = cond (isCrate k) (length l) 0; reading = k }) (sets buf 0 l)
+  pub closes-bad : isGood (faultIn l) ≡ false → step (inside k false (length l) (sets buf 0 l)) 0x7E
+      ≡ held (next (freshReader k) Address false (cond (isCrate k) (length l) 0)) (sets buf 0 l)
   unfolding step
   closes-bad e = rw (kept, e)

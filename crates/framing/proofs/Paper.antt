@@ -13,7 +13,7 @@ use Rattle.laws.specs.Quiet.{Quiet, none}
 use Rattle.laws.proofs.Cases.{by-test, by-le}
 use Rattle.laws.proofs.Quiet.{quiet-step}
 use Rattle.framing.specs.Rfc1662.{removed, unescaped, aborted}
-use Rattle.framing.specs.Reader.{isCrate, isGood, freshReader, Held, held, step, full}
+use Rattle.framing.specs.Reader.{isCrate, freshReader, faultIn, isGood, Held, held, step, full}
 use Rattle.framing.specs.Heard.{Heard, heard}
 use Rattle.framing.specs.Arrives.{Idle, Arrives}
 use Rattle.framing.specs.Paper.{doubled, Between, Readable}
@@ -83,7 +83,7 @@ module _ (k : Reading) (m : ℕ) (buf w : List ℕ) (ok : Between k m (0xFF ∷ 
       let l = unescaped false w in
       by-le (length l) (length buf)
       (λ fits.
-      by-test (isGood l)
+      by-test (isGood (faultIn l))
       (λ g. heard-holds p ps (good-holds l (unescaped-bytes false w (ok .bytes .1)) g) fits e)
       (λ g. none-at p ps (heard-none 0x7E (enters k buf w (ok .no-flag .1) noDouble noAbort fits) (ap full (closes-bad k l buf fits g))) e))
       (λ short.

@@ -6,14 +6,14 @@ use mathlib.Core.List.{List, [], _∷_, _++_}
 use Prim.Native.Nat.{ℕ, suc, _+_, _-_, _≤_, _<_}
 use native.Mathlib.Omega.{arith}
 use native.Mathlib.Numerals.{add-one}
-use borrow.Author.Tests.{ltb-true, leb-true, lt-ltb, le-ltb}
-use lib.Dec.{ltb, leb, eqb}
+use borrow.Author.Tests.{ltb-true, lt-ltb, le-ltb}
+use lib.Dec.{ltb, eqb}
 use lib.ListN.{length, getD, take, drop, length-take, length-drop, length-set, take-append-drop, drop-of-length-le}
 use lib.Seq.{drop-cons, take-suc-set}
 use Rattle.laws.specs.Quiet.{Quiet, none, more}
 use Rattle.laws.proofs.Cases.{by-test, by-le, cond-by, cond-all, cond-both}
 use Rattle.laws.proofs.Parts.{same-part}
-use Rattle.framing.specs.Reader.{isCrate, isComplete, freshReader, isGood, moved, marks, plainOf, escapeAfter, lenAfter, ended, Held, held, stored, stepBy, step, full, Fed, fed, isShort, consumed, Consumes, packetOf, gotNumber, Receives}
+use Rattle.framing.specs.Reader.{isCrate, isComplete, freshReader, next, moved, marks, plainOf, escapeAfter, lenAfter, faultIn, faultOf, isGood, ended, Held, held, stored, stepBy, step, full, Fed, fed, isShort, consumed, Consumes, Framed, packetOf, gotNumber, Receives}
 use Rattle.framing.specs.declared.refusal.Refusal.the-variants.{BufferShort}
 use Rattle.framing.specs.declared.refusal.Outcome.{Outcome}
 use Rattle.framing.specs.declared.refusal.Outcome.the-variants.{Done, Refused}
@@ -33,7 +33,7 @@ pub record Kept (l : ℕ) (s : Held) : Type 0 where
 module _ (l : ℕ) where
   ended-kept : (s : Held) → Kept l s → Kept l (held (ended (s .reader) (s .buf)) (s .buf))
   ended-kept s h =
-      cond-all (λ (r : FrameReader). Kept l (held r (s .buf))) (isGood (take (s .reader .len) (s .buf)))
+      cond-all (λ (r : FrameReader). Kept l (held r (s .buf))) (isGood (faultOf (s .reader) (s .buf)))
       (record { room = h .room; within = h .within })
       (record { room = h .room; within = cond-all (λ (n : ℕ). n ≤ l) (isCrate (s .reader .reading)) (h .within) (omega arith) })
 
@@ -62,15 +62,12 @@ module _ (l : ℕ) where
 
 -- ---- a complete frame has three bytes or more, so refusal 5 is for records that no calls reach
 
-abbrev pub Framed : FrameReader → Type 0
-Framed r = isComplete (r .state) ≡ true → 3 ≤ r .len
-
-good-long : (n : ℕ) (l : List ℕ) → isGood (take n l) ≡ true → 3 ≤ n
-unfolding isGood
+good-long : (n : ℕ) (l : List ℕ) → isGood (faultIn (take n l)) ≡ true → 3 ≤ n
+unfolding faultIn
 good-long n l e =
-    by-test (leb 3 (length (take n l)))
-    (λ t. omega (arith, leb-true 3 (length (take n l)) t, length-take n l))
-    (λ t. absurd (false≢true (rw t at e)))
+    by-le 3 (length (take n l))
+    (λ h. omega (arith, length-take n l))
+    (λ h. absurd (false≢true (rw (lt-ltb (length (take n l)) 3 h) at e)))
 
 -- a test that is false
 never : {P : Type 0} → false ≡ true → P
@@ -83,7 +80,7 @@ stepBy-framed Address s b h =
     (cond-all (λ (t : State). Framed (moved (s .reader) t)) (eqb b 0x7E) never never)
 stepBy-framed Data s b h =
     cond-all (λ (t : Held). Framed (t .reader)) (eqb b 0x7E)
-    (cond-by Framed (isGood (take (s .reader .len) (s .buf))) (λ t _. good-long (s .reader .len) (s .buf) t) (λ _. never))
+    (cond-by Framed (isGood (faultOf (s .reader) (s .buf))) (λ t _. good-long (s .reader .len) (s .buf) t) (λ _. never))
     (cond-all (λ (t : Held). Framed (t .reader)) (marks (s .reader) b) never
     (cond-all (λ (t : Held). Framed (t .reader)) (ltb (s .reader .len) (length (s .buf))) never never))
 stepBy-framed Complete s b h = h
@@ -253,9 +250,9 @@ module _ (x y : List ℕ) (e : length x ≡ length y) where
 
   ended-alike : (r : FrameReader) → take (r .len) x ≡ take (r .len) y → Alike (held (ended r x) x) (held (ended r y) y)
   ended-alike r q =
-      cond-both (λ (a b : FrameReader). Alike (held a x) (held b y)) (ap isGood q)
-      (λ _. pair (record { state = Complete; escape = escapeAfter r; len = r .len; reading = r .reading }) q)
-      (λ _. pair (record { state = Address; escape = escapeAfter r; len = lenAfter r; reading = r .reading }) (cond-all (λ (n : ℕ). take n x ≡ take n y) (isCrate (r .reading)) q refl))
+      cond-both (λ (a b : FrameReader). Alike (held a x) (held b y)) (ap (λ (l : List ℕ). isGood (faultIn l)) q)
+      (λ _. pair (next r Complete (escapeAfter r) (r .len)) q)
+      (λ _. pair (next r Address (escapeAfter r) (lenAfter r)) (cond-all (λ (n : ℕ). take n x ≡ take n y) (isCrate (r .reading)) q refl))
 
   stored-alike : (r : FrameReader) (b : ℕ) → take (r .len) x ≡ take (r .len) y → Alike (stored (held r x) b) (stored (held r y) b)
   stored-alike r b q =
@@ -267,7 +264,7 @@ module _ (x y : List ℕ) (e : length x ≡ length y) where
         same-room = length-set x (r .len) b ∙ e ∙ sym (length-set y (r .len) b);
         same-kept = rw (add-one (r .len), take-suc-set x (r .len) b h, take-suc-set y (r .len) b (omega arith), q);
       })
-      (λ t. pair (record { state = Start; escape = false; len = 0; reading = r .reading }) refl)
+      (λ t. pair (next r Start false 0) refl)
 
   stepBy-alike : (st : State) (r : FrameReader) (b : ℕ) → take (r .len) x ≡ take (r .len) y → Alike (stepBy st (held r x) b) (stepBy st (held r y) b)
   stepBy-alike Start r b q = pair (moved r (cond (eqb b 0x7E) Address Start)) q
@@ -275,7 +272,7 @@ module _ (x y : List ℕ) (e : length x ≡ length y) where
   stepBy-alike Data r b q =
       cond-both Alike {t = eqb b 0x7E} refl (λ _. ended-alike r q)
       (λ _. cond-both Alike {t = marks r b} refl
-      (λ _. pair (record { state = Data; escape = true; len = r .len; reading = r .reading }) q)
+      (λ _. pair (next r Data true (r .len)) q)
       (λ _. stored-alike r (plainOf r b) q))
   stepBy-alike Complete r b q = pair r q
 

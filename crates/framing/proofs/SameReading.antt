@@ -4,9 +4,9 @@ use mathlib.Core.Path.{_≡_, refl, _∙_}
 use mathlib.Core.List.{List, [], _∷_}
 use Prim.Native.Nat.{ℕ}
 use lib.Dec.{ltb, eqb}
-use lib.ListN.{length, take}
+use lib.ListN.{length}
 use Rattle.laws.proofs.Cases.{cond-all}
-use Rattle.framing.specs.Reader.{isGood, marks, Held, stepBy, step, full, Fed, fed, isShort, consumed}
+use Rattle.framing.specs.Reader.{isGood, faultOf, marks, Held, stepBy, step, full, Fed, fed, isShort, consumed}
 use Rattle.framing.specs.declared.frame_reader.State.{State}
 use Rattle.framing.specs.declared.frame_reader.State.the-variants.{Start, Address, Data, Complete}
 use Rattle.framing.specs.declared.frame_reader.FrameReader.{FrameReader}
@@ -19,7 +19,7 @@ module _ (s : Held) (b : ℕ) where
   stepBy-reading Start = refl
   stepBy-reading Address = refl
   stepBy-reading Data =
-      cond-all Same (eqb b 0x7E) (cond-all (λ (r : FrameReader). r .reading ≡ s .reader .reading) (isGood (take (s .reader .len) (s .buf))) refl refl)
+      cond-all Same (eqb b 0x7E) (cond-all (λ (r : FrameReader). r .reading ≡ s .reader .reading) (isGood (faultOf (s .reader) (s .buf))) refl refl)
       (cond-all Same (marks (s .reader) b) refl (cond-all Same (ltb (s .reader .len) (length (s .buf))) refl refl))
   stepBy-reading Complete = refl
 

@@ -2,8 +2,7 @@
 -- one that is not good keeps nothing; any one clears the escape.
 use mathlib.Core.Path.{_≡_}
 use mathlib.Core.Bool.{false, cond}
-use lib.ListN.{take}
-use Rattle.framing.specs.Reader.{isGood, Held, full}
+use Rattle.framing.specs.Reader.{faultOf, isGood, Held, full}
 use Rattle.framing.specs.declared.frame_reader.State.{State}
 use Rattle.framing.specs.declared.frame_reader.State.the-variants.{Start, Address, Data, Complete}
 use Rattle.framing.specs.declared.frame_reader.Reading.the-variants.{Standard}
@@ -11,7 +10,7 @@ use Rattle.framing.specs.declared.frame_reader.FrameReader.{FrameReader}
 
 -- a frame's end takes s to t
 pub record EndsClean (s t : Held) : Type 0 where
-  pub judged : full t ≡ isGood (take (s .reader .len) (s .buf))
+  pub judged : full t ≡ isGood (faultOf (s .reader) (s .buf))
   pub cleared : t .reader .escape ≡ false
   pub kept : t .reader .len ≡ cond (full t) (s .reader .len) 0
 

@@ -2,7 +2,7 @@
 use mathlib.Core.Path.{_≡_}
 use mathlib.Core.Bool.{Bool, true, false, cond, _&&_, _||_, not}
 use mathlib.Core.List.{List, [], _∷_}
-use Prim.Native.Nat.{ℕ, _+_, _-_}
+use Prim.Native.Nat.{ℕ, _+_, _-_, _≤_}
 use lib.Bits.{bitXor}
 use lib.Dec.{ltb, leb, eqb}
 use lib.ListN.{length, getD, take, drop, set}
@@ -14,6 +14,8 @@ use Rattle.framing.specs.declared.frame_reader.State.the-variants.{Start
 use Rattle.framing.specs.declared.frame_reader.Reading.{Reading}
 use Rattle.framing.specs.declared.frame_reader.Reading.the-variants.{Crate, Standard}
 use Rattle.framing.specs.declared.frame_reader.FrameReader.{FrameReader}
+use Rattle.framing.specs.declared.frame_reader.Fault.{Fault}
+use Rattle.framing.specs.declared.frame_reader.Fault.the-variants.{None, Short, Control, Check}
 use Rattle.framing.specs.declared.frame_reader.Got.{Got}
 use Rattle.framing.specs.declared.frame_reader.Got.the-variants.{Packet, Refused, Nothing}
 
@@ -30,12 +32,12 @@ isComplete Complete = true
 abbrev pub freshReader : Reading → FrameReader
 freshReader k = record { state = Start; escape = false; len = 0; reading = k }
 
--- a good frame: three bytes or more are kept, the first is 03 and the residue is right
-unfoldable pub isGood : List ℕ → Bool
-isGood kept = leb 3 (length kept) && (eqb (getD kept 0 0) 0x03 && eqb (fcs 0x00FF kept) 0xF0B8)
+-- the reading stays as it was made
+abbrev pub next : FrameReader → State → Bool → ℕ → FrameReader
+next r s e n = record { state = s; escape = e; len = n; reading = r .reading }
 
 abbrev pub moved : FrameReader → State → FrameReader
-moved r s = record { state = s; escape = r .escape; len = r .len; reading = r .reading }
+moved r s = next r s (r .escape) (r .len)
 
 -- 7D sets the escape; behind an escape it does so in crate reading only, and is a byte in the standard one
 abbrev pub marks : FrameReader → ℕ → Bool
@@ -52,11 +54,26 @@ escapeAfter r = r .escape && isCrate (r .reading)
 abbrev pub lenAfter : FrameReader → ℕ
 lenAfter r = cond (isCrate (r .reading)) (r .len) 0
 
+-- what is wrong with the kept bytes: under three of them, the first not 03, or the residue wrong
+unfoldable pub faultIn : List ℕ → Fault
+faultIn kept =
+    cond (ltb (length kept) 3) Short
+    (cond (not (eqb (getD kept 0 0) 0x03)) Control
+    (cond (not (eqb (fcs 0x00FF kept) 0xF0B8)) Check None))
+
+-- why a frame end gives no frame
+abbrev pub faultOf : FrameReader → List ℕ → Fault
+faultOf r buf = faultIn (take (r .len) buf)
+
+abbrev pub isGood : Fault → Bool
+isGood None = true
+isGood Short = false
+isGood Control = false
+isGood Check = false
+
+-- a good frame is complete; the end of any other is the flag before the next
 abbrev pub ended : FrameReader → List ℕ → FrameReader
-ended r buf =
-    cond (isGood (take (r .len) buf))
-    (record { state = Complete; escape = escapeAfter r; len = r .len; reading = r .reading })
-    (record { state = Address; escape = escapeAfter r; len = lenAfter r; reading = r .reading })
+ended r buf = cond (isGood (faultOf r buf)) (next r Complete (escapeAfter r) (r .len)) (next r Address (escapeAfter r) (lenAfter r))
 
 -- a reader beside the buffer that is lent to it
 pub record Held : Type 0 where
@@ -70,15 +87,15 @@ held r l = record { reader = r; buf = l }
 abbrev pub stored : Held → ℕ → Held
 stored s b =
     cond (ltb (s .reader .len) (length (s .buf)))
-    (held (record { state = Data; escape = false; len = s .reader .len + 1; reading = s .reader .reading }) (set (s .buf) (s .reader .len) b))
-    (held (record { state = Start; escape = false; len = 0; reading = s .reader .reading }) (s .buf))
+    (held (next (s .reader) Data false (s .reader .len + 1)) (set (s .buf) (s .reader .len) b))
+    (held (next (s .reader) Start false 0) (s .buf))
 
 abbrev pub inData : Held → ℕ → Held
 inData s b =
     cond (eqb b 0x7E)
     (held (ended (s .reader) (s .buf)) (s .buf))
     (cond (marks (s .reader) b)
-    (held (record { state = Data; escape = true; len = s .reader .len; reading = s .reader .reading }) (s .buf))
+    (held (next (s .reader) Data true (s .reader .len)) (s .buf))
     (stored s (plainOf (s .reader) b)))
 
 abbrev pub stepBy : State → Held → ℕ → Held
@@ -119,7 +136,11 @@ pub record Consumes (s : Held) (bs : List ℕ) (o : Outcome) (n : ℕ) (r : Fram
 
 -- the reader once its frame is fetched
 abbrev pub fetched : FrameReader → FrameReader
-fetched r = record { state = Address; escape = r .escape; len = 0; reading = r .reading }
+fetched r = next r Address (r .escape) 0
+
+-- Complete only with three bytes or more kept
+abbrev pub Framed : FrameReader → Type 0
+Framed r = isComplete (r .state) ≡ true → 3 ≤ r .len
 
 -- the packet is bytes 1 up to the kept length less 2
 abbrev pub packetOf : Held → List ℕ

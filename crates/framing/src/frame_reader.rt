@@ -1,8 +1,8 @@
 // The frame reader: its state by value, the buffer lent to each call.
 ghost use mathlib.Core.Path.{_≡_};
 ghost use Prim.Native.Nat.{_≤_};
-ghost use lib.ListN.{length, take};
-ghost use Rattle.framing.specs.Reader.{isCrate, isComplete, freshReader, isGood, moved, marks, plainOf, escapeAfter, lenAfter, ended, held, stored, inData, step, Consumes, Receives};
+ghost use lib.ListN.{length};
+ghost use Rattle.framing.specs.Reader.{isCrate, isComplete, freshReader, next, moved, marks, plainOf, escapeAfter, lenAfter, faultOf, isGood, ended, held, stored, inData, step, Consumes, Receives};
 use crate::crc::crc16;
 use crate::refusal::Outcome;
 use crate::refusal::Refusal;
@@ -31,6 +31,17 @@ pub struct Consumed {
     pub outcome: Outcome,
     pub count: usize,
     pub reader: FrameReader,
+}
+
+// Why a frame end gives no frame.
+pub enum Fault {
+    None,
+    // Under three bytes are kept.
+    Short,
+    // The first is not 03.
+    Control,
+    // The residue is wrong.
+    Check,
 }
 
 // The packet's range in the lent buffer, if a frame is complete.
@@ -65,18 +76,15 @@ fn is_complete(s: State) -> bool
     }
 }
 
-// Whether the kept bytes are a good frame.
-fn is_good(buf: &[u8], len: usize) -> bool
-    requires { ⌜ len ≤ length (now buf) ⌝ }
-    ensures { λ r. ⌜ r ≡ isGood (take len (now (buf .entry))) ⌝ }
+fn is_good(f: Fault) -> bool
+    ensures { λ r. ⌜ r ≡ isGood f ⌝ }
 {
-    if len < 3 {
-        return false;
+    match f {
+        Fault::None => true,
+        Fault::Short => false,
+        Fault::Control => false,
+        Fault::Check => false,
     }
-    if buf[0] != 0x03 {
-        return false;
-    }
-    crc16(0x00FF, &buf[..len]) == 0xF0B8
 }
 
 impl FrameReader {
@@ -91,16 +99,25 @@ impl FrameReader {
         }
     }
 
-    fn to(self, s: State) -> Self
-        ensures { λ r. ⌜ r ≡ moved self s ⌝ }
+    // The reading stays as it was made.
+    fn next(self, state: State, escape: bool, len: usize) -> Self
+        ensures { λ r. ⌜ r ≡ next self state escape len ⌝ }
     {
         let k = self.reading;
         FrameReader {
-            state: s,
-            escape: self.escape,
-            len: self.len,
+            state,
+            escape,
+            len,
             reading: k,
         }
+    }
+
+    fn to(self, s: State) -> Self
+        ensures { λ r. ⌜ r ≡ moved self s ⌝ }
+    {
+        let escape = self.escape;
+        let len = self.len;
+        self.next(s, escape, len)
     }
 
     // Whether this byte of a frame is an escape.
@@ -143,54 +160,49 @@ impl FrameReader {
         if is_crate(k) { len } else { 0 }
     }
 
+    // What is wrong with the frame that ends here; the check value is worked out last.
+    fn fault(self, buf: &[u8]) -> Fault
+        requires { ⌜ self .len ≤ length (now buf) ⌝ }
+        ensures { λ f. ⌜ f ≡ faultOf self (now (buf .entry)) ⌝ }
+    {
+        let len = self.len;
+        if len < 3 {
+            return Fault::Short;
+        }
+        if buf[0] != 0x03 {
+            return Fault::Control;
+        }
+        if crc16(0x00FF, &buf[..len]) != 0xF0B8 {
+            return Fault::Check;
+        }
+        Fault::None
+    }
+
     // 7E inside a frame ends it.
     fn end(self, buf: &[u8]) -> Self
         requires { ⌜ self .len ≤ length (now buf) ⌝ }
         ensures { λ r. ⌜ r ≡ ended self (now (buf .entry)) ⌝ }
     {
-        let k = self.reading;
-        let len = self.len;
         let escape = self.escape_after();
-        if is_good(buf, len) {
-            FrameReader {
-                state: State::Complete,
-                escape,
-                len,
-                reading: k,
-            }
-        } else {
-            let after = self.len_after();
-            FrameReader {
-                state: State::Address,
-                escape,
-                len: after,
-                reading: k,
-            }
+        let f = self.fault(buf);
+        if is_good(f) {
+            let len = self.len;
+            return self.next(State::Complete, escape, len);
         }
+        let after = self.len_after();
+        self.next(State::Address, escape, after)
     }
 
     fn store(self, buf: &mut [u8], b: u8) -> Self
         ensures { λ r. ⌜ held r (now (buf .exit)) ≡ stored (held self (now (buf .entry))) b ⌝ }
     {
         let len = self.len;
-        let k = self.reading;
         if len < buf.len() {
             buf[len] = b;
-            let next = len + 1;
-            FrameReader {
-                state: State::Data,
-                escape: false,
-                len: next,
-                reading: k,
-            }
-        } else {
-            FrameReader {
-                state: State::Start,
-                escape: false,
-                len: 0,
-                reading: k,
-            }
+            let longer = len + 1;
+            return self.next(State::Data, false, longer);
         }
+        self.next(State::Start, false, 0)
     }
 
     // A byte inside a frame.
@@ -202,13 +214,8 @@ impl FrameReader {
             return self.end(buf);
         }
         if self.marks(b) {
-            let k = self.reading;
-            return FrameReader {
-                state: State::Data,
-                escape: true,
-                len: self.len,
-                reading: k,
-            };
+            let len = self.len;
+            return self.next(State::Data, true, len);
         }
         let plain = self.plain(b);
         self.store(buf, plain)
@@ -288,13 +295,8 @@ impl FrameReader {
             };
         }
         let len = self.len;
-        let k = self.reading;
-        let reader = FrameReader {
-            state: State::Address,
-            escape: self.escape,
-            len: 0,
-            reading: k,
-        };
+        let escape = self.escape;
+        let reader = self.next(State::Address, escape, 0);
         if len < 3 {
             return Received {
                 got: Got::Refused(Refusal::FrameShort),

@@ -4,6 +4,7 @@ use mathlib.Core.Path.{_≡_, refl, ap, ap₂, sym, _∙_}
 use mathlib.Core.List.{List, [], _∷_, map}
 use Prim.Native.Nat.{ℕ}
 use Rattle.laws.proofs.Cases.{apart, by-test}
+use Rattle.framing.specs.Reader.{Framed}
 use Rattle.link.specs.Reached.{Reached, by-new, by-open, by-consume, by-poll}
 use Rattle.link.specs.declared.refusal.Outcome.{Outcome}
 use Rattle.link.specs.declared.refusal.Outcome.the-variants.{Done}
@@ -13,7 +14,7 @@ use Rattle.original.specs.Run.{Run, returns, panics, _>>=_, Result, ok, 
 use Rattle.original.specs.Framing.{WriteResult}
 use Rattle.original.specs.Pppos as theirs
 use Rattle.original.specs.View.{viewLink}
-use Rattle.original.specs.Domain.{Lasting, Framed}
+use Rattle.original.specs.Domain.{Lasting}
 use Rattle.original.specs.Same.{SameOpen, SameSend}
 use Rattle.original.specs.History as history
 use Rattle.original.specs.History.{Call, Answered, openedBy, sentBy, callOf, Ran, callsOf, runOf, OurAnswer, asAnswer, Called, Calls, none, next, History, SameHistory}

@@ -37,7 +37,7 @@ use Rattle.link.proofs.Chosen.{makes-chosen, opens-keeps, consumes-keeps, polls
 use Rattle.original.specs.Run.{Run}
 use Rattle.original.specs.Ppp as ppp
 use Rattle.original.specs.View.{viewPpp}
-use Rattle.original.specs.Domain.{Lasting, Framed, Whole, Lasts, AllLast}
+use Rattle.original.specs.Domain.{Lasting, Whole, Lasts, AllLast}
 use Rattle.original.proofs.Bytes.{each-take, each-drop}
 use Rattle.original.proofs.Received.{Held, SameReceived, same, long, stops, received-same}
 use Rattle.original.proofs.Opening as opening
@@ -194,9 +194,9 @@ whole-lasts =
     })
     (λ r p w. w) (λ l rx bs w. w)
 
-framed-lasts : Lasts (λ l. Framed (l .«frame_reader»))
+framed-lasts : Lasts (λ l. reader.Framed (l .«frame_reader»))
 framed-lasts =
-    lasts-by (λ l. Framed (l .«frame_reader»)) (λ r p _ e. absurd (false≢true e)) (λ r p k. k) (λ r p pkt _ _ _ k. k) (λ name password c _ _ _. fresh-framed (c .reading)) (λ r p k. k)
+    lasts-by (λ l. reader.Framed (l .«frame_reader»)) (λ r p _ e. absurd (false≢true e)) (λ r p k. k) (λ r p pkt _ _ _ k. k) (λ name password c _ _ _. fresh-framed (c .reading)) (λ r p k. k)
     (λ l rx bs k. consumed-framed (heldBy l rx) bs k)
 
 pub all-last : AllLast

@@ -9,7 +9,7 @@ use borrow.Author.Tests.{le-leb, lt-leb, lt-ltb, le-ltb, eqb-true}
 use lib.Dec.{eqb}
 use lib.ListN.{length, take, drop}
 use Rattle.laws.proofs.Cases.{by-le, by-test}
-use Rattle.framing.specs.Reader.{isComplete, fetched}
+use Rattle.framing.specs.Reader.{isComplete, fetched, Framed}
 use Rattle.options.specs.Wire.{protocolIn}
 use Rattle.phases.specs.Phases.{receivedOf}
 use Rattle.phases.proofs.Sounds.{ready}
@@ -23,7 +23,7 @@ use Rattle.original.specs.Run.{returns, panics, pollSlice}
 use Rattle.original.specs.Framing.{newWriter}
 use Rattle.original.specs.Pppos as theirs
 use Rattle.original.specs.View.{viewLink}
-use Rattle.original.specs.Domain.{Lasting, InDomain, Framed}
+use Rattle.original.specs.Domain.{Lasting, InDomain}
 use Rattle.original.specs.Panics.{dropped, SamePoll, same, refuses}
 use Rattle.original.proofs.Reader.{receive-is}
 use Rattle.original.proofs.Received as received

@@ -17,6 +17,7 @@ use Rattle.framing.specs.Reader as ours
 use Rattle.framing.specs.declared.frame_reader.State as reading
 use Rattle.framing.specs.declared.frame_reader.Reading.the-variants.{Crate}
 use Rattle.framing.specs.declared.frame_reader.FrameReader as reader
+use Rattle.framing.specs.declared.frame_reader.Fault.the-variants.{None, Short, Control, Check}
 use Rattle.framing.specs.declared.frame_reader.Got.{Got}
 use Rattle.framing.specs.declared.frame_reader.Got.the-variants.{Packet, Nothing}
 use Rattle.framing.specs.declared.refusal.Outcome.{Outcome}
@@ -27,7 +28,6 @@ use Rattle.original.specs.Run.{Run, returns, _>>=_}
 use Rattle.original.specs.Crc.{crc16}
 use Rattle.original.specs.Framing.{Fed, feedIn, endOf, fedTo, storeOf, usizeMax, isComplete, consumeFrom, consume, nothing, range, receive, Address, Complete, Consumed}
 use Rattle.original.specs.View.{viewReading, viewReader}
-use Rattle.original.specs.Domain.{Framed}
 use Rattle.original.specs.SameFraming.{fetchOf}
 use Rattle.original.proofs.Crc.{same-crc16}
 use Rattle.original.proofs.Bytes.{each-take, each-set}
@@ -48,27 +48,31 @@ module _ (r : reader.FrameReader) (buf : List ℕ) (within : r .len ≤ length b
   kept-length : length (take (r .len) buf) ≡ r .len
   kept-length = omega (arith, length-take (r .len) buf)
 
-  -- the three tests are one
-  good-is : ours.isGood (take (r .len) buf) ≡ leb 3 (r .len) && (eqb (getD (take (r .len) buf) 0 0) 0x03 && eqb (crc16 0x00FF (take (r .len) buf)) 0xF0B8)
-  unfolding ours.isGood
-  good-is = rw (kept-length, same-crc16 0x00FF (take (r .len) buf) (each-take (λ b. b < 256) (r .len) buf bytes)) refl
+  -- the three tests, with the crate's check value
+  fault-is : ours.faultOf r buf
+      ≡ cond (ltb (r .len) 3) Short (cond (not (eqb (getD (take (r .len) buf) 0 0) 0x03)) Control (cond (not (eqb (crc16 0x00FF (take (r .len) buf)) 0xF0B8)) Check None))
+  unfolding ours.faultIn
+  fault-is = rw (kept-length, same-crc16 0x00FF (take (r .len) buf) (each-take (λ b. b < 256) (r .len) buf bytes)) refl
 
   end-is : endOf (viewReader r) buf ≡ returns (fedOf (ours.held (ours.ended r buf) buf))
   end-is =
       by-le 3 (r .len)
       (λ h. let first : getD (take (r .len) buf) 0 0 ≡ getD buf 0 0 = getD-take (r .len) buf 0 0 (omega arith) in
-      rw (good-is, first, crate, le-ltb (r .len) 3 h, le-leb 3 (r .len) h, ne-eqb (length buf) 0 (λ e. omega arith), le-ltb (length buf) (r .len) within)
+      rw (fault-is, first, crate, le-ltb (r .len) 3 h, ne-eqb (length buf) 0 (λ e. omega arith), le-ltb (length buf) (r .len) within)
       (go (eqb (getD buf 0 0) 0x03) (eqb (crc16 0x00FF (take (r .len) buf)) 0xF0B8)))
-      (λ h. rw (good-is, crate, lt-ltb (r .len) 3 h, lt-leb 3 (r .len) h) (stay (r .escape)))
+      (λ h. rw (fault-is, crate, lt-ltb (r .len) 3 h) (stay (r .escape)))
     where
       stay : (e : Bool) → _≡_ {A = Run Fed} (returns (record { reader = record { state = Address; escape = e; len = r .len }; buf = buf }))
           (returns (record { reader = record { state = Address; escape = e && true; len = r .len }; buf = buf }))
       stay true = refl
       stay false = refl
 
+      left : reading.State → reader.FrameReader
+      left s = ours.next (ours.freshReader Crate) s (r .escape && true) (r .len)
+
       go : (s t : Bool)
           → cond (not s) (fedTo Address (viewReader r) buf) (fedTo (cond t Complete Address) (viewReader r) buf)
-          ≡ returns (fedOf (ours.held (cond (s && t) (record { state = reading.the-variants.Complete; escape = r .escape && true; len = r .len; reading = Crate }) (record { state = reading.the-variants.Address; escape = r .escape && true; len = r .len; reading = Crate })) buf))
+          ≡ returns (fedOf (ours.held (cond (ours.isGood (cond (not s) Control (cond (not t) Check None))) (left reading.the-variants.Complete) (left reading.the-variants.Address)) buf))
       go true true = by-test (r .escape) (λ e. rw e refl) (λ e. rw e refl)
       go true false = stay (r .escape)
       go false t = stay (r .escape)
@@ -163,14 +167,14 @@ module _ (r : reader.FrameReader) (buf bs : List ℕ) (crate : r .reading ≡ Cr
       )
 
 -- what our receive promises: the packet's range, or nothing; a complete frame with under three bytes kept is refusal 5 here
-pub receive-is : (r : reader.FrameReader) → Framed r
+pub receive-is : (r : reader.FrameReader) → ours.Framed r
     → receive (viewReader r) ≡ returns (cond (ours.isComplete (r .state)) (range 1 (r .len - 2) (viewReader (ours.fetched r))) (nothing (viewReader r)))
 unfolding receive
 receive-is r h =
     rw (complete-is (r .state))
     (by-test (ours.isComplete (r .state)) (λ t. rw (t, le-ltb (r .len) 2 (omega (arith, h t))) refl) (λ t. rw t refl))
 
-pub same-receive : {r r′ : reader.FrameReader} {g : Got} → ours.Receives r g r′ → Framed r
+pub same-receive : {r r′ : reader.FrameReader} {g : Got} → ours.Receives r g r′ → ours.Framed r
     → (ours.gotNumber g ≡ 0) × (receive (viewReader r) ≡ returns (fetchOf g (viewReader r′))) × (r′ .reading ≡ r .reading)
 same-receive {r} {r′} {g} c h = (
   receives-done h c,

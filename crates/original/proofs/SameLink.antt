@@ -8,7 +8,7 @@ use native.Mathlib.Omega.{arith}
 use borrow.Author.Tests.{lt-ltb, le-ltb}
 use lib.Dec.{ltb}
 use lib.ListN.{length}
-use Rattle.framing.specs.Reader.{isComplete, fetched}
+use Rattle.framing.specs.Reader.{isComplete, fetched, Framed}
 use Rattle.framing.specs.declared.frame_reader.FrameReader.{FrameReader}
 use Rattle.framing.specs.declared.refusal.Refusal.the-variants.{FrameShort}
 use Rattle.link.specs.Link.{linkOf, declined, pollLink, Polls}
@@ -20,7 +20,7 @@ use Rattle.original.specs.Run.{Place, Run, returns, panics}
 use Rattle.original.specs.Framing.{receive}
 use Rattle.original.specs.Pppos as theirs
 use Rattle.original.specs.View.{viewLink}
-use Rattle.original.specs.Domain.{InDomain, Framed}
+use Rattle.original.specs.Domain.{InDomain}
 use Rattle.original.specs.SameFraming.{SameFraming}
 use Rattle.original.specs.Same.{SamePolled, SameLink}
 use Rattle.original.specs.Panics.{numberAt, SamePoll, same, refuses, opens, unframedAt}

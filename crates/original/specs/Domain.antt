@@ -1,12 +1,10 @@
 -- Document 01's domain: what our link holds, what is lent to a call, and what every call keeps of it.
 use mathlib.Core.Path.{_≡_}
-use mathlib.Core.Bool.{true}
 use mathlib.Core.List.{List}
 use Prim.Native.Nat.{ℕ, _+_, _^_, _≤_, _<_}
 use lib.ListN.{length}
 use Rattle.laws.specs.Each.{Bytes}
-use Rattle.framing.specs.Reader.{isComplete}
-use Rattle.framing.specs.declared.frame_reader.FrameReader.{FrameReader}
+use Rattle.framing.specs.Reader.{Framed}
 use Rattle.framing.specs.declared.frame_reader.Reading.the-variants.{Crate}
 use Rattle.negotiation.specs.declared.pap.Pap.{Pap}
 use Rattle.link.specs.Choices.{choicesOf, Plain}
@@ -36,10 +34,6 @@ pub record InDomain (l : PPPoS) (rx : List ℕ) : Type 0 where
   pub lent : Lent l rx
 
 -- ---- what every call keeps
-
--- Complete only with three bytes or more kept
-abbrev pub Framed : FrameReader → Type 0
-Framed r = isComplete (r .state) ≡ true → 3 ≤ r .len
 
 -- credentials as new leaves them: an array of 120 bytes, and lengths that it has
 pub record Whole (p : Pap) : Type 0 where

@@ -5,7 +5,7 @@ use mathlib.Core.List.{List, [], _∷_}
 use Prim.Native.Nat.{ℕ, _+_, _≤_, _<_}
 use lib.Dec.{ltb}
 use lib.ListN.{length, getD}
-use Rattle.framing.specs.Reader.{isComplete, fetched, gotNumber, Receives}
+use Rattle.framing.specs.Reader.{isComplete, fetched, gotNumber, Receives, Framed}
 use Rattle.framing.specs.declared.frame_reader.FrameReader as reader
 use Rattle.framing.specs.declared.frame_reader.Got.{Got}
 use Rattle.framing.specs.declared.frame_reader.State.the-variants.{Data}
@@ -32,7 +32,7 @@ use Rattle.original.specs.Protocols.{ipv4cpProtocol, closePap}
 use Rattle.original.specs.Ppp.{Ppp, withPap, withIpv4cp}
 use Rattle.original.specs.Pppos as theirs
 use Rattle.original.specs.View.{viewReader, viewLink}
-use Rattle.original.specs.Domain.{Framed, InDomain}
+use Rattle.original.specs.Domain.{InDomain}
 use Rattle.original.specs.Same.{SamePolled}
 use Rattle.original.specs.History.{Call, polls, OurAnswer, acted, Called, History, Ran, callOf, runOf}
 

@@ -8,7 +8,7 @@ use Rattle.laws.specs.Each.{Bytes}
 use Rattle.framing.specs.Refusal as framing
 use Rattle.framing.specs.Rfc1662.{fcs}
 use Rattle.framing.specs.Writer.{freshWriter, Starts, Appends, Finishes}
-use Rattle.framing.specs.Reader.{held, freshReader, gotNumber, Receives}
+use Rattle.framing.specs.Reader.{held, freshReader, Framed, gotNumber, Receives}
 use Rattle.framing.specs.Reader as reading
 use Rattle.framing.specs.declared.frame_reader.FrameReader as reader
 use Rattle.framing.specs.declared.frame_reader.Got.{Got}
@@ -20,7 +20,6 @@ use Rattle.original.specs.Run.{returns}
 use Rattle.original.specs.Crc.{crc16}
 use Rattle.original.specs.Framing.{newWithAsyncmap, WriteResult, start, append, finish, FrameReader, newReader, Fetch, nothing, range, receive, consume}
 use Rattle.original.specs.View.{viewWriter, viewReader}
-use Rattle.original.specs.Domain.{Framed}
 
 -- a writer's call: done where the original says Ok, refusal 1 where it says Err, and what both leave
 pub record SameWrite (r : WriteResult) (o : framed.Outcome) (w : writer.FrameWriter) (buf : List ℕ) : Type 0 where

@@ -15,8 +15,11 @@ returns c = rw (eq-eqb _ _ (c .before .before .if1 .taken), c .end .ensures)
 marks-requires : tie.Need-marks-requires
 marks-requires c κs = search needs
 
+next-requires : tie.Need-next-requires
+next-requires c κs = search needs
+
 returns-2 : tie.Need-returns-2
-returns-2 c = rw (ne-eqb _ _ (c .before .before .if1 .left), ← c .before .marks .ensures, c .if2 .taken)
+returns-2 c = rw (ne-eqb _ _ (c .before .before .before .if1 .left), ← c .before .before .marks .ensures, c .before .if2 .taken, c .next .ensures)
 
 plain-requires : tie.Need-plain-requires
 plain-requires c κs = search needs
@@ -41,6 +44,7 @@ data-spec =
     same-length
     returns
     marks-requires
+    next-requires
     returns-2
     plain-requires
     store-requires

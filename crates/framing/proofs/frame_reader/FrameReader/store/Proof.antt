@@ -6,17 +6,32 @@ use Rattle.framing.proofs.frame_reader.FrameReader.store.Tie as tie
 slice-write-buf : tie.Need-slice-write-buf
 slice-write-buf c = search needs
 
-add-next : tie.Need-add-next
-add-next c = search needs
+add-longer : tie.Need-add-longer
+add-longer c = search needs
+
+next-requires : tie.Need-next-requires
+next-requires c κs = search needs
 
 same-length : tie.Need-same-length
 same-length c = search needs
 
 returns : tie.Need-returns
-returns c = rw (lt-ltb _ _ (c .if1 .taken))
+returns c = rw (lt-ltb _ _ (c .before .if1 .taken), c .next .ensures)
+
+next-requires-2 : tie.Need-next-requires-2
+next-requires-2 c κs = search needs
 
 returns-2 : tie.Need-returns-2
-returns-2 c = rw (le-ltb _ _ (c .if1 .left))
+returns-2 c = rw (le-ltb _ _ (c .before .if1 .left), c .next2 .ensures)
 
 pub store-spec : {M : Type 1} → statement M
-store-spec = tie.close (tie.spec slice-write-buf add-next same-length returns returns-2)
+store-spec =
+    tie.close
+    (tie.spec
+    slice-write-buf
+    add-longer
+    next-requires
+    same-length
+    returns
+    next-requires-2
+    returns-2)
