@@ -5,7 +5,7 @@ use mathlib.Core.Bool.{Bool, true, false, _&&_}
 use mathlib.Core.List.{List, [], _∷_, _++_}
 use Prim.Native.Nat.{ℕ}
 use native.Mathlib.Omega.{arith}
-use Rattle.negotiation.specs.Automaton.{nextId}
+use Rattle.negotiation.specs.Messages.{nextId}
 use Rattle.meeting.proofs.Says.{Self, heard, hello, ask, lcpPacket, begun, net, Moves}
 use Rattle.negotiation.specs.declared.states.State.the-variants.{ReqSent, Opened}
 use Rattle.phases.specs.declared.ppp.Phase.the-variants.{Network, Open}

@@ -11,7 +11,8 @@ use Rattle.options.specs.Wire.{pktOf, packetOf}
 use Rattle.options.specs.Options.{walkIn, walkFrom}
 use Rattle.options.specs.Proto.{ownNacked, nacksOf}
 use Rattle.options.specs.Reply.{listedOf, stepOf, replyOf}
-use Rattle.negotiation.specs.Automaton.{nextId, requested, ackOf, reqWith, reqOf, nackWith, nackOf, termAckOf, ignoredTurn, echoOf, actOf, handleOf, rejectTurn, openedFsm}
+use Rattle.negotiation.specs.Messages.{nextId}
+use Rattle.negotiation.specs.Automaton.{requested, ackOf, reqWith, reqOf, nackWith, nackOf, termAckOf, ignoredTurn, echoOf, actOf, handleOf, rejectTurn, openedFsm}
 use Rattle.phases.specs.Phases.{pppTurned, rejectOf, receivedOf, establishOf, authOf, networkOf, phaseOf, openOf, pollOf, turnOf}
 use Rattle.phases.specs.Sound.{Calm}
 use Rattle.meeting.proofs.Says.{Self, selfOf, offer, heard, lcpPacket, hello, ask, grant, deny, lcpAt, ipAt, end, begun, greeted, net, Small, Moves}

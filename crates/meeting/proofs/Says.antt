@@ -8,7 +8,7 @@ use Rattle.laws.specs.Be.{beBytes, beOf}
 use Rattle.laws.specs.Each.{Bytes}
 use Rattle.options.specs.Options.{optBytes}
 use Rattle.options.specs.Wire.{packetOf}
-use Rattle.negotiation.specs.Automaton.{nextId}
+use Rattle.negotiation.specs.Messages.{nextId}
 use Rattle.negotiation.specs.Pap.{withPapState}
 use Rattle.phases.specs.Phases.{pppTurned, turnOf}
 use Rattle.phases.specs.Sound.{Calm}

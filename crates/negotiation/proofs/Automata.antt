@@ -17,23 +17,22 @@ use Rattle.options.specs.declared.refusal.Refusal.the-variants.{EchoEmpty, Repl
 use Rattle.negotiation.specs.declared.states.State.{State}
 use Rattle.options.specs.declared.wire.Packet.{Packet}
 use Rattle.negotiation.specs.declared.replies.Replies.{Replies}
-use Rattle.options.specs.Wire.{pktOf, contentOf, packetOf, lengthField}
+use Rattle.options.specs.Wire.{pktOf, lengthField}
 use Rattle.negotiation.specs.Replies.{repliesOf, added}
-use Rattle.options.specs.Proto.{protocolOf, ownOf}
-use Rattle.negotiation.specs.Automaton.{ackResends, afterAck, afterNack, isOpened, handled, refusedTurn, withState, nextId, requestBytes, requested, requestedIn, ackOf, replyBytes, afterReply, reqWith, afterNacked, nackWith, termAckOf, ignoredTurn, echoBytes, echoOf, actOf, handleOf}
-use Rattle.options.proofs.Wires.{content-of}
+use Rattle.negotiation.specs.Messages.{nextId, requestBytes, replyBytes, termAckBytes, echoBytes}
+use Rattle.negotiation.specs.Automaton.{ackResends, afterAck, afterNack, isOpened, handled, refusedTurn, withState, stepped, requested, requestedIn, ackOf, afterReply, reqWith, afterNacked, nackWith, termAckOf, ignoredTurn, echoOf, actOf, handleOf}
 use Rattle.negotiation.proofs.Joining.{add-replies}
 
 -- an own request as the code builds it
-pub request-of : {s : Replies} {i n : ℕ} {o q : Packet} (f : OptionFsm) (r : Replies) → i ≡ nextId (f .id) → n ≡ protocolOf (f .proto)
-    → o ≡ pktOf (ownOf (f .proto)) → q ≡ pktOf (packetOf n 1 i (contentOf o)) → s ≡ added r q
-    → _≡_ {A = Handled} (record { outcome = Done; echoed = false; fsm = record { id = i; state = f .state; proto = f .proto }; replies = s }) (requestedIn f r)
-request-of f r ei en eo eq es = rw (es, eq, content-of eo, en, ei) refl
+pub request-of : {g : OptionFsm} {s : Replies} {q : Packet} (f : OptionFsm) (r : Replies) → g ≡ stepped f
+    → q ≡ pktOf (requestBytes (g .proto) (g .id)) → s ≡ added r q
+    → _≡_ {A = Handled} (record { outcome = Done; echoed = false; fsm = g; replies = s }) (requestedIn f r)
+request-of f r eg eq es = rw (es, eq, eg) refl
 
 -- the record of replies holds the packets sent
 pub requested-behind : (f : OptionFsm) (ps : List (List ℕ)) → length ps < 3 → requestedIn f (repliesOf ps) ≡ handled (requested f ps)
 unfolding requested
-requested-behind f ps h = rw (add-replies ps (requestBytes f) h) refl
+requested-behind f ps h = rw (add-replies ps (requestBytes (f .proto) (nextId (f .id))) h) refl
 
 -- one packet sent
 pub one-reply : {r s : Replies} {q : Packet} (l : List ℕ) → r ≡ repliesOf [] → q ≡ pktOf l → s ≡ added r q → s ≡ repliesOf (l ∷ [])
@@ -74,11 +73,10 @@ pub nack-sent : {t : State} {r : Replies} {h : Handled} (f : OptionFsm) (n : Nac
 unfolding nackWith
 nack-sent f n e et er eh = eh ∙ rw (er, et, requested-behind (afterNacked f (n .proto)) [] (lit< tt), e) refl
 
-pub term-of : {n : ℕ} {b q : Packet} {r s : Replies} (f : OptionFsm) (i : ℕ) → n ≡ protocolOf (f .proto) → b ≡ pktOf []
-    → q ≡ pktOf (packetOf n 6 i (contentOf b)) → r ≡ repliesOf [] → s ≡ added r q
+pub term-of : {q : Packet} {r s : Replies} (f : OptionFsm) (i : ℕ) → r ≡ repliesOf [] → q ≡ pktOf (termAckBytes (f .proto) i) → s ≡ added r q
     → _≡_ {A = Handled} (record { outcome = Done; echoed = false; fsm = f; replies = s }) (handled (termAckOf f i))
 unfolding termAckOf
-term-of f i en eb eq er es = rw (one-reply (packetOf (protocolOf (f .proto)) 6 i []) er (eq ∙ rw (content-of eb, en) refl) es) refl
+term-of f i er eq es = rw (one-reply (termAckBytes (f .proto) i) er eq es) refl
 
 module _ {n : ℕ} {h : Handled} (f : OptionFsm) (p : List ℕ) (l : 6 ≤ length p) (e : n ≡ lengthField p + 2) where
   pub handle-over : length p < n → h ≡ handled (ignoredTurn f) → h ≡ handled (handleOf f p)

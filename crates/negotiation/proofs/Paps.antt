@@ -15,7 +15,7 @@ use Rattle.laws.proofs.Lists.{drop-replicate}
 use Rattle.laws.proofs.Stores.{sets-append, sets-front}
 use Rattle.negotiation.specs.declared.pap.Pap.{Pap}
 use Rattle.negotiation.specs.declared.pap.PapState.the-variants.{Opened}
-use Rattle.negotiation.specs.Automaton.{nextId}
+use Rattle.negotiation.specs.Messages.{nextId}
 use Rattle.negotiation.specs.Pap.{nameLen, passwordLen, nameOf, passwordOf, papWith, credentialBytes, papBytes, fitsCredentials, isPapSent, papActOf, papTurned, papRequested, withPapState}
 use Rattle.options.specs.declared.wire.Packet.{Packet}
 use Rattle.options.specs.Wire.{pktOf, Pushed, pushedAll}

@@ -7,9 +7,8 @@ use mathlib.Core.List.{List, [], _∷_, _++_}
 use borrow.Author.Tests.{ltb-false}
 use native.Mathlib.Omega.{arith}
 use lib.Dec.{ltb, eqb}
-use lib.ListN.{length, take, drop, getD, length-append, length-take, length-drop}
+use lib.ListN.{length, take, drop, getD, length-append}
 use Rattle.laws.specs.Each.{Each}
-use Rattle.laws.proofs.Be.{length-be}
 use Rattle.laws.proofs.Cases.{cond-by, cond-all}
 use Rattle.laws.proofs.Each.{each-append}
 use Rattle.options.specs.declared.walk.Reply.{Reply}
@@ -19,14 +18,14 @@ use Rattle.options.specs.declared.refusal.Outcome.the-variants.{Done, Refused}
 use Rattle.options.specs.declared.refusal.Refusal.{Refusal}
 use Rattle.options.specs.declared.refusal.Refusal.the-variants.{ConfigureShort, EchoEmpty, ReplyLong}
 use Rattle.options.specs.Refusal.{isDone}
-use Rattle.options.specs.Wire.{contentOf, lengthField}
+use Rattle.options.specs.Wire.{lengthField}
 use Rattle.options.specs.Options.{walkOf}
-use Rattle.options.specs.Proto.{protocolOf, ownOf}
-use Rattle.options.specs.Reply.{Ready}
-use Rattle.options.proofs.Fair.{isLcp, Short, length-packet, own-short, Fair, fair-answer, nacks-kind}
+use Rattle.options.proofs.Fair.{isLcp, Short, Fair, fair-answer, nacks-kind}
 use Rattle.negotiation.specs.declared.option_fsm.OptionFsm.{OptionFsm}
 use Rattle.negotiation.specs.declared.states.State.the-variants.{ReqSent}
-use Rattle.negotiation.specs.Automaton.{ackResends, afterAck, afterTerm, isClosed, isOpened, Turn, turned, refusedTurn, withState, nextId, requestBytes, requested, ackOf, codeOf, replyBytes, afterReply, repliedTurn, unless, reqWith, reqOf, afterNacked, nackWith, nackOf, termAckOf, ignoredTurn, echoBytes, echoOf, actOf, handleOf, stepped, rejectBytes, rejectTurn, openedFsm}
+use Rattle.negotiation.specs.Messages.{nextId, requestBytes, replyBytes, termAckBytes, echoBytes, rejectBytes}
+use Rattle.negotiation.specs.Automaton.{ackResends, afterAck, afterTerm, isClosed, isOpened, Turn, turned, refusedTurn, withState, requested, ackOf, afterReply, repliedTurn, unless, reqWith, reqOf, afterNacked, nackWith, nackOf, termAckOf, ignoredTurn, echoOf, actOf, handleOf, stepped, rejectTurn, openedFsm}
+use Rattle.negotiation.proofs.Lengths.{request-length, reply-length, term-ack-length, echo-length, reject-length}
 
 -- of a step from f that leaves t
 pub record Proper (f : OptionFsm) (t : Turn) : Type 0 where
@@ -34,18 +33,6 @@ pub record Proper (f : OptionFsm) (t : Turn) : Type 0 where
   pub short : Each Short (t .sent)
   pub kind : isLcp (t .fsm .proto) ≡ isLcp (f .proto)
   pub left : isDone (t .outcome) ≡ false → (t .fsm ≡ f) × (t .sent ≡ []) × (t .echoed ≡ false)
-
--- ---- packets
-
-pub request-short : (f : OptionFsm) → length (requestBytes f) ≤ 24
-request-short f = omega (arith, length-packet (protocolOf (f .proto)) 1 (nextId (f .id)) (ownOf (f .proto)), own-short (f .proto))
-
--- a reply's packet: its header, and six options of six bytes
-reply-short : (i : ℕ) (r : Reply) → Ready r → length (replyBytes i r) ≤ 42
-reply-short i r ready =
-    omega (arith, length-packet (protocolOf (r .proto)) (codeOf (r .verdict)) i (contentOf (r .packet)), length-take (r .packet .len) (r .packet .bytes), ready .most, ready .room)
-
--- ---- the steps
 
 module _ (f : OptionFsm) where
   proper-done : (g : OptionFsm) (ps : List (List ℕ)) → isLcp (g .proto) ≡ isLcp (f .proto) → length ps ≤ 2 → Each Short ps → Proper f (turned g ps)
@@ -65,8 +52,9 @@ module _ (f : OptionFsm) where
   proper-requested : (g : OptionFsm) (ps : List (List ℕ)) → isLcp (g .proto) ≡ isLcp (f .proto) → length ps ≤ 1 → Each Short ps → Proper f (requested g ps)
   unfolding requested
   proper-requested g ps e h k =
-      let s : length (requestBytes g) ≤ 128 = omega (arith, request-short g) in
-      proper-done _ (ps ++ requestBytes g ∷ []) e (rw length-append (omega arith)) (each-append Short ps (requestBytes g ∷ []) k (s, tt))
+      let l = requestBytes (g .proto) (nextId (g .id)) in
+      let s : length l ≤ 128 = omega (arith, request-length (g .proto) (nextId (g .id))) in
+      proper-done _ (ps ++ l ∷ []) e (rw length-append (omega arith)) (each-append Short ps (l ∷ []) k (s, tt))
 
   proper-unless : (o : Outcome) (t : Turn) → Proper f t → Proper f (unless o f t)
   proper-unless Done t h = h
@@ -75,7 +63,7 @@ module _ (f : OptionFsm) where
   proper-req : (i : ℕ) (r : Reply) → Fair (isLcp (f .proto)) r → Proper f (reqWith f i r)
   unfolding reqWith
   proper-req i r fair =
-      let s : length (replyBytes i r) ≤ 128 = omega (arith, reply-short i r (fair .ready)) in
+      let s : length (replyBytes i r) ≤ 128 = omega (arith, reply-length i r (fair .ready)) in
       proper-unless (r .outcome) (repliedTurn f i r)
       (cond-all (Proper f) (isOpened (f .state))
       (proper-requested (afterReply f r) (replyBytes i r ∷ []) (fair .kind) (omega arith) (s, tt))
@@ -87,7 +75,7 @@ module _ (f : OptionFsm) where
 
   proper-term : (g : OptionFsm) (i : ℕ) → isLcp (g .proto) ≡ isLcp (f .proto) → Proper f (termAckOf g i)
   unfolding termAckOf
-  proper-term g i e = proper-one g _ e (omega (arith, length-packet (protocolOf (g .proto)) 6 i []))
+  proper-term g i e = proper-one g (termAckBytes (g .proto) i) e (omega (arith, term-ack-length (g .proto) i))
 
   proper-ack : Proper f (ackOf f)
   unfolding ackOf
@@ -104,9 +92,7 @@ module _ (f : OptionFsm) where
       proper-ignored
     where
       long : ltb (length p) 3 ≡ false → ltb 128 (length p) ≡ false → length (echoBytes (f .proto) p) ≤ 128
-      long h l =
-          rw length-append
-          (omega (arith, length-be 2 (protocolOf (f .proto)), length-drop 3 p, ltb-false (length p) 3 h, ltb-false 128 (length p) l))
+      long h l = omega (arith, echo-length (f .proto) p (ltb-false (length p) 3 h), ltb-false 128 (length p) l)
 
   proper-act : (c i : ℕ) (p : List ℕ) → Proper f (actOf f c i p)
   unfolding actOf reqOf nackOf
@@ -133,7 +119,7 @@ module _ (f : OptionFsm) where
   unfolding rejectTurn
   proper-reject p =
       cond-by (Proper f) (ltb 122 (length p)) (λ _. proper-refused ReplyLong)
-      (λ e. proper-one (stepped f) (rejectBytes (f .id) p) refl (omega (arith, length-packet 0xC021 8 (nextId (f .id)) p, ltb-false 122 (length p) e)))
+      (λ e. proper-one (stepped f) (rejectBytes (nextId (f .id)) p) refl (omega (arith, reject-length (nextId (f .id)) p, ltb-false 122 (length p) e)))
 
   pub proper-opened : Proper f (openedFsm f)
   unfolding openedFsm

@@ -20,12 +20,12 @@ use Rattle.options.specs.declared.refusal.Outcome.the-variants.{Done, Refused}
 use Rattle.options.specs.declared.refusal.Refusal.{Refusal}
 use Rattle.negotiation.specs.declared.states.State.{State}
 use Rattle.negotiation.specs.declared.states.State.the-variants.{Closed, ReqSent, AckReceived, AckSent, Opened}
-use Rattle.options.specs.Wire.{packetOf}
 use Rattle.options.specs.Options.{walkOf}
-use Rattle.options.specs.Proto.{protocolOf, startOf, ownOf, nacksOf}
+use Rattle.options.specs.Proto.{startOf, nacksOf}
 use Rattle.options.specs.Reply.{freshReply, replyOf}
-use Rattle.negotiation.specs.Automaton.{afterAcked, afterNotAcked, afterReq, afterAck, ackResends, afterNack, afterTerm, isClosed, isOpened, Turn, turned, refusedTurn, withState, nextId, requestBytes, requested, ackOf, afterReply, repliedTurn, unless, reqWith, reqOf, afterNacked, nackWith, nackOf, termAckOf, actOf}
+use Rattle.negotiation.specs.Automaton.{afterAcked, afterNotAcked, afterReq, afterAck, ackResends, afterNack, afterTerm, isClosed, isOpened, Turn, turned, refusedTurn, withState, requested, ackOf, afterReply, repliedTurn, unless, reqWith, reqOf, afterNacked, nackWith, nackOf, termAckOf, actOf}
 use Rattle.negotiation.specs.StateTable.{Event, reqAcked, reqNotAcked, ack, nackOrRej, terminate, Transition, row, table}
+use Rattle.negotiation.specs.Messages.{nextId, requestBytes, termAckBytes}
 
 abbrev pub afterOf : Event → State → State
 afterOf reqAcked = afterAcked
@@ -71,8 +71,7 @@ pub data Leaves (f : OptionFsm) (i : ℕ) (p : List ℕ) : Event → Turn → Ty
 pub record Moved (f : OptionFsm) (to : State) (asks : Bool) (t : Turn) : Type 0 where
   pub state : t .fsm .state ≡ to
   pub id : t .fsm .id ≡ cond asks (nextId (f .id)) (f .id)
-  pub request : asks ≡ true
-      → getD (t .sent) (length (t .sent) - 1) [] ≡ packetOf (protocolOf (t .fsm .proto)) 1 (t .fsm .id) (ownOf (t .fsm .proto))
+  pub request : asks ≡ true → getD (t .sent) (length (t .sent) - 1) [] ≡ requestBytes (t .fsm .proto) (t .fsm .id)
 
 closed-stays : (e : Event) → (afterOf e Closed ≡ Closed) × (asksOf e Closed ≡ false)
 closed-stays reqAcked = (refl, refl)
@@ -103,7 +102,7 @@ module _ (f : OptionFsm) (i : ℕ) (p : List ℕ) where
   requested-goes : (g : OptionFsm) (ps : List (List ℕ)) → g .id ≡ f .id → Goes (g .state) true (requested g ps)
   unfolding requested
   requested-goes g ps e _ =
-      record { state = refl; id = rw e refl; request = λ _. getD-at ps (requestBytes g) [] [] _ (rw length-append (omega arith)) }
+      record { state = refl; id = rw e refl; request = λ _. getD-at ps (requestBytes (g .proto) (nextId (g .id))) [] [] _ (rw length-append (omega arith)) }
 
   turned-goes : (g : OptionFsm) (ps : List (List ℕ)) → g .id ≡ f .id → Goes (g .state) false (turned g ps)
   turned-goes g ps e _ = record { state = refl; id = e; request = λ x. absurd (false≢true x) }
@@ -117,7 +116,7 @@ module _ (f : OptionFsm) (i : ℕ) (p : List ℕ) where
       shut : isClosed (f .state) ≡ true → Goes (afterOf e (f .state)) (asksOf e (f .state)) (termAckOf f i)
       shut k =
           let s = is-closed (f .state) k in
-          rw (s, closed-stays e .0, closed-stays e .1) (rw s at (turned-goes f (packetOf (protocolOf (f .proto)) 6 i [] ∷ []) refl))
+          rw (s, closed-stays e .0, closed-stays e .1) (rw s at (turned-goes f (termAckBytes (f .proto) i ∷ []) refl))
 
   pub req-goes : (v : Verdict) → answer f p .verdict ≡ v → Goes (afterReq (f .state) v) (isOpened (f .state)) (reqOf f i p)
   unfolding reqOf reqWith

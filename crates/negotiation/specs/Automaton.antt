@@ -1,14 +1,14 @@
 -- One step of the automaton, for LCP and IPv4CP alike (document 01, 'Negotiation', in its order).
 use mathlib.Core.Bool.{Bool, true, false, cond}
 use mathlib.Core.List.{List, [], _∷_, _++_}
-use Prim.Native.Nat.{ℕ, _+_, _%_}
+use Prim.Native.Nat.{ℕ, _+_}
 use lib.Dec.{ltb, eqb}
 use lib.ListN.{length, take, drop, getD}
-use Rattle.laws.specs.Be.{beBytes}
-use Rattle.options.specs.Wire.{pktOf, contentOf, packetOf, lengthField}
+use Rattle.options.specs.Wire.{pktOf, lengthField}
 use Rattle.negotiation.specs.Replies.{repliesOf, added}
+use Rattle.negotiation.specs.Messages.{nextId, requestBytes, replyBytes, termAckBytes, echoBytes, rejectBytes}
 use Rattle.options.specs.Options.{walkOf}
-use Rattle.options.specs.Proto.{protocolOf, startOf, ownOf, nacksOf}
+use Rattle.options.specs.Proto.{startOf, nacksOf}
 use Rattle.options.specs.Reply.{freshReply, replyOf}
 use Rattle.options.specs.declared.refusal.Refusal.{Refusal}
 use Rattle.options.specs.declared.refusal.Refusal.the-variants.{ConfigureShort, EchoEmpty, ReplyLong}
@@ -115,37 +115,23 @@ refusedTurn f why = record { outcome = Refused why; echoed = false; fsm = f; sen
 abbrev pub withState : OptionFsm → State → OptionFsm
 withState f s = record { id = f .id; state = s; proto = f .proto }
 
--- the id steps before use, and 255 goes to 0
-abbrev pub nextId : ℕ → ℕ
-nextId i = (i + 1) % 256
-
+-- the id steps before use
 abbrev pub stepped : OptionFsm → OptionFsm
 stepped f = record { id = nextId (f .id); state = f .state; proto = f .proto }
 
--- an own request
-abbrev pub requestBytes : OptionFsm → List ℕ
-requestBytes f = packetOf (protocolOf (f .proto)) 1 (nextId (f .id)) (ownOf (f .proto))
-
 -- an own request behind the packets ps
 unfoldable pub requested : OptionFsm → List (List ℕ) → Turn
-requested f ps = turned (stepped f) (ps ++ (requestBytes f ∷ []))
+requested f ps = turned (stepped f) (ps ++ (requestBytes (f .proto) (nextId (f .id)) ∷ []))
 
 -- the same behind a record of replies
 abbrev pub requestedIn : OptionFsm → Replies → Handled
-requestedIn f rs = record { outcome = Done; echoed = false; fsm = stepped f; replies = added rs (pktOf (requestBytes f)) }
+requestedIn f rs =
+    record { outcome = Done; echoed = false; fsm = stepped f; replies = added rs (pktOf (requestBytes (f .proto) (nextId (f .id)))) }
 
 -- ---- one packet, by its code
 
 unfoldable pub ackOf : OptionFsm → Turn
 ackOf f = cond (ackResends (f .state)) (requested (withState f (afterAck (f .state))) []) (turned (withState f (afterAck (f .state))) [])
-
-abbrev pub codeOf : Verdict → ℕ
-codeOf Ack = 2
-codeOf Nack = 3
-codeOf Rej = 4
-
-abbrev pub replyBytes : ℕ → Reply → List ℕ
-replyBytes i r = packetOf (protocolOf (r .proto)) (codeOf (r .verdict)) i (contentOf (r .packet))
 
 abbrev pub afterReply : OptionFsm → Reply → OptionFsm
 afterReply f r = record { id = f .id; state = afterReq (f .state) (r .verdict); proto = r .proto }
@@ -178,14 +164,10 @@ unfoldable pub nackOf : OptionFsm → Bool → List ℕ → Turn
 nackOf f rej p = cond (ltb (length p) 6) (refusedTurn f ConfigureShort) (nackWith f (nacksOf rej (f .proto) (walkOf (drop 6 p))))
 
 unfoldable pub termAckOf : OptionFsm → ℕ → Turn
-termAckOf f i = turned f (packetOf (protocolOf (f .proto)) 6 i [] ∷ [])
+termAckOf f i = turned f (termAckBytes (f .proto) i ∷ [])
 
 unfoldable pub ignoredTurn : OptionFsm → Turn
 ignoredTurn f = turned f []
-
--- the packet comes back with code 10
-abbrev pub echoBytes : Proto → List ℕ → List ℕ
-echoBytes q p = beBytes 2 (protocolOf q) ++ (10 ∷ drop 3 p)
 
 unfoldable pub echoOf : OptionFsm → List ℕ → Turn
 echoOf f p =
@@ -219,12 +201,9 @@ handleOf f p =
 
 -- ---- Protocol-Reject, opening and closing
 
--- Protocol-Reject steps the id and carries the whole packet
-abbrev pub rejectBytes : ℕ → List ℕ → List ℕ
-rejectBytes i pkt = packetOf 0xC021 8 (nextId i) pkt
-
+-- Protocol-Reject steps the id
 unfoldable pub rejectTurn : OptionFsm → List ℕ → Turn
-rejectTurn f pkt = cond (ltb 122 (length pkt)) (refusedTurn f ReplyLong) (turned (stepped f) (rejectBytes (f .id) pkt ∷ []))
+rejectTurn f pkt = cond (ltb 122 (length pkt)) (refusedTurn f ReplyLong) (turned (stepped f) (rejectBytes (nextId (f .id)) pkt ∷ []))
 
 -- whatever the state was
 unfoldable pub openedFsm : OptionFsm → Turn

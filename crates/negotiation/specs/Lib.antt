@@ -1,4 +1,5 @@
 pub mod Replies
+pub mod Messages
 pub mod Automaton
 pub mod StateTable
 pub mod Pap

@@ -1,5 +1,6 @@
 // PPP negotiation (RFC 1661, 1334): one automaton for LCP and IPv4CP, PAP, and the packets that they send.
 // Nothing here knows of framing.
+mod messages;
 pub mod option_fsm;
 pub mod pap;
 pub mod replies;

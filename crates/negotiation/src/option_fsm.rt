@@ -1,13 +1,15 @@
 // The automaton of option negotiation: one step for LCP and IPv4CP.
 ghost use mathlib.Core.Path.{_≡_};
 ghost use Prim.Native.Nat.{_≤_};
-ghost use lib.ListN.{length};
-ghost use Rattle.options.specs.Wire.{pktOf};
 ghost use Rattle.options.specs.Reply.{Ready};
-ghost use Rattle.negotiation.specs.Automaton.{handled, refusedTurn, withState, requestedIn, ackOf, codeOf, replyBytes, afterReply, reqWith, reqOf, nackWith, nackOf, termAckOf, ignoredTurn, echoBytes, echoOf, actOf, handleOf, rejectTurn, openedFsm};
+ghost use Rattle.negotiation.specs.Automaton.{handled, refusedTurn, withState, stepped, requestedIn, ackOf, afterReply, reqWith, reqOf, nackWith, nackOf, termAckOf, ignoredTurn, echoOf, actOf, handleOf, rejectTurn, openedFsm};
+use crate::messages::echo_packet;
+use crate::messages::next_id;
+use crate::messages::reject_packet;
+use crate::messages::reply_packet;
+use crate::messages::request_packet;
+use crate::messages::terminate_ack_packet;
 use crate::replies::Replies;
-use crate::replies::emit;
-use crate::replies::emit_packet;
 use crate::states::State;
 use crate::states::ack_resends;
 use crate::states::after_ack;
@@ -18,11 +20,8 @@ use crate::states::is_closed;
 use crate::states::is_opened;
 use options::proto::Nacked;
 use options::proto::Proto;
-use options::proto::Verdict;
-use options::proto::own_options;
 use options::proto::own_options_nacked;
 use options::proto::peer_options_start;
-use options::proto::protocol;
 use options::refusal::Outcome;
 use options::refusal::Refusal;
 use options::walk::Reply;
@@ -32,12 +31,7 @@ use options::wire::CONFIGURE_NACK;
 use options::wire::CONFIGURE_REJ;
 use options::wire::CONFIGURE_REQ;
 use options::wire::DISCARD_REQ;
-use options::wire::ECHO_REPLY;
 use options::wire::ECHO_REQ;
-use options::wire::LCP;
-use options::wire::PROTOCOL_REJ;
-use options::wire::Packet;
-use options::wire::TERMINATE_ACK;
 use options::wire::TERMINATE_REQ;
 use options::wire::length_in;
 
@@ -55,37 +49,6 @@ pub struct Handled {
     pub replies: Replies,
 }
 
-fn reply_code(v: Verdict) -> u8
-    ensures { λ r. ⌜ r ≡ codeOf v ⌝ }
-{
-    match v {
-        Verdict::Ack => CONFIGURE_ACK,
-        Verdict::Nack => CONFIGURE_NACK,
-        Verdict::Rej => CONFIGURE_REJ,
-    }
-}
-
-// The packet that says a reply.
-fn reply_packet(r: Reply, id: u8) -> Packet
-    requires { ⌜ Ready r ⌝ }
-    ensures { λ q. ⌜ q ≡ pktOf (replyBytes id r) ⌝ }
-{
-    let v = r.verdict;
-    let p = r.proto;
-    let b = r.packet;
-    emit_packet(protocol(p), reply_code(v), id, b)
-}
-
-// The echo of a packet that has a code.
-fn echo_packet(q: Proto, p: &[u8]) -> Packet
-    requires { ⌜ (3 ≤ length (now p)) × (length (now p) ≤ 128) ⌝ }
-    ensures { λ r. ⌜ r ≡ pktOf (echoBytes q (now (p .entry))) ⌝ }
-{
-    let v = protocol(q);
-    let head = [(v / 256 % 256) as u8, (v % 256) as u8, ECHO_REPLY];
-    Packet::blank().push_all(&head).push_all(&p[3..])
-}
-
 impl OptionFsm {
     fn with_state(self, s: State) -> Self
         ensures { λ r. ⌜ r ≡ withState self s ⌝ }
@@ -93,6 +56,19 @@ impl OptionFsm {
         let p = self.proto;
         OptionFsm {
             id: self.id,
+            state: s,
+            proto: p,
+        }
+    }
+
+    // The id steps before use.
+    fn with_next_id(self) -> Self
+        ensures { λ r. ⌜ r ≡ stepped self ⌝ }
+    {
+        let s = self.state;
+        let p = self.proto;
+        OptionFsm {
+            id: next_id(self.id),
             state: s,
             proto: p,
         }
@@ -125,18 +101,13 @@ impl OptionFsm {
         requires { ⌜ before .count ≤ 1 ⌝ }
         ensures { λ h. ⌜ h ≡ requestedIn self before ⌝ }
     {
-        let id = std::num::wrapping_add_u8(self.id, 1);
-        let s = self.state;
-        let p = self.proto;
-        let q = emit_packet(protocol(p), CONFIGURE_REQ, id, own_options(p));
+        let f = self.with_next_id();
+        let p = f.proto;
+        let q = request_packet(p, f.id);
         Handled {
             outcome: Outcome::Done,
             echoed: false,
-            fsm: OptionFsm {
-                id,
-                state: s,
-                proto: p,
-            },
+            fsm: f,
             replies: before.add(q),
         }
     }
@@ -145,12 +116,11 @@ impl OptionFsm {
         ensures { λ h. ⌜ h ≡ handled (termAckOf self id) ⌝ }
     {
         let p = self.proto;
-        let q = emit_packet(protocol(p), TERMINATE_ACK, id, Packet::blank());
         Handled {
             outcome: Outcome::Done,
             echoed: false,
             fsm: self,
-            replies: Replies::none().add(q),
+            replies: Replies::none().add(terminate_ack_packet(p, id)),
         }
     }
 
@@ -200,7 +170,7 @@ impl OptionFsm {
         }
         let s = self.state;
         let f = self.after_reply(r);
-        let replies = Replies::none().add(reply_packet(r, id));
+        let replies = Replies::none().add(reply_packet(id, r));
         if is_opened(s) {
             return f.send_configure_request(replies);
         }
@@ -317,18 +287,12 @@ impl OptionFsm {
         if 122 < pkt.len() {
             return self.refuse(Refusal::ReplyLong);
         }
-        let id = std::num::wrapping_add_u8(self.id, 1);
-        let s = self.state;
-        let p = self.proto;
+        let f = self.with_next_id();
         Handled {
             outcome: Outcome::Done,
             echoed: false,
-            fsm: OptionFsm {
-                id,
-                state: s,
-                proto: p,
-            },
-            replies: Replies::none().add(emit(LCP, PROTOCOL_REJ, id, pkt)),
+            fsm: f,
+            replies: Replies::none().add(reject_packet(f.id, pkt)),
         }
     }
 

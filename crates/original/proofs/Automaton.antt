@@ -15,6 +15,7 @@ use Rattle.options.specs.Wire.{packetOf, contentOf}
 use Rattle.options.specs.Options.{walkOf}
 use Rattle.options.specs.Proto.{protocolOf}
 use Rattle.options.specs.Reply.{freshReply}
+use Rattle.negotiation.specs.Messages.{nextId, requestBytes, codeOf, termAckBytes}
 use Rattle.negotiation.specs.Automaton as ours
 use Rattle.options.specs.declared.refusal.Refusal.the-variants.{ConfigureShort, ReplyLong}
 use Rattle.options.specs.declared.refusal.Outcome.the-variants.{Done, Refused}
@@ -57,15 +58,15 @@ module _ {X P : Type 0} (T : theirs.Protocol P) (inj : X → Proto) (view : X �
 
   -- ---- what is sent
 
-  pub request-carries : (i : ℕ) (s : State) (x : X)
-      → Carries (theirs.packetOf T (PPP 1 ((i + 1) % 256) (Options (stands .own x .opts)))) (ours.requestBytes (here i s x))
-  request-carries i s x =
+  pub request-carries : (i : ℕ) (x : X)
+      → Carries (theirs.packetOf T (PPP 1 ((i + 1) % 256) (Options (stands .own x .opts)))) (requestBytes (inj x) (nextId i))
+  request-carries i x =
       let own = stands .own x in
       carries-ppp (T .protocol) _ 1 _ (Options (own .opts)) _ (stands .number x) (lit< tt) (mod-lt (i + 1) {m = 256} (lit< tt)) (own .lists .is) (own .lists .len) (own .lists .bytes) (omega (arith, own-short (inj x)))
 
   -- an own request
   pub request-sent : (i : ℕ) (s : State) (x : X)
-      → theirs.sendConfigureRequest T (there i s x) ≡ returns (record { fsm = there (ours.nextId i) s x; packet = theirs.packetOf T (PPP 1 (ours.nextId i) (Options (stands .own x .opts))) })
+      → theirs.sendConfigureRequest T (there i s x) ≡ returns (record { fsm = there (nextId i) s x; packet = theirs.packetOf T (PPP 1 (nextId i) (Options (stands .own x .opts))) })
   unfolding theirs.sendConfigureRequest
   request-sent i s x = rw (stands .own x .pushed) refl
 
@@ -80,9 +81,9 @@ module _ {X P : Type 0} (T : theirs.Protocol P) (inj : X → Proto) (view : X �
     unfolding theirs.requestBehind ours.requested
     request-same i s s′ x c =
         rw (request-sent i s x)
-        (plain ((i + 1) % 256) s′ x (mod-lt (i + 1) {m = 256} (lit< tt)) (carried-append c (more (request-carries i s′ x) none)))
+        (plain ((i + 1) % 256) s′ x (mod-lt (i + 1) {m = 256} (lit< tt)) (carried-append c (more (request-carries i x) none)))
 
-    ack-carries : (i : ℕ) (x : X) → i < 256 → Carries (theirs.sendTerminateAck T i) (packetOf (protocolOf (inj x)) 6 i [])
+    ack-carries : (i : ℕ) (x : X) → i < 256 → Carries (theirs.sendTerminateAck T i) (termAckBytes (inj x) i)
     ack-carries i x small = carries-ppp (T .protocol) _ 6 i (RawData []) [] (stands .number x) (lit< tt) small refl refl tt (lit< tt)
 
     pub term-same : (i j : ℕ) (s : State) (x : X) → i < 256 → j < 256
@@ -129,7 +130,7 @@ module _ {X P : Type 0} (T : theirs.Protocol P) (inj : X → Proto) (view : X �
         go r n (replies.refused f) = rw (f .outcome) (stops (refused-so f))
 
     after-req : (i : ℕ) (s : State) (v : verdict.Verdict) (x : X) {tx : List Packet} {ps : List (List ℕ)} → i < 256 → ours.isClosed s ≡ false → Carried tx ps
-        → SameTurn pkt (theirs.afterResp T (viewState s) (eqb (ours.codeOf v) 2) (there i s x) pkt tx) (cond (ours.isOpened s) (ours.requested (here i (ours.afterReq s v) x) ps) (ours.turned (here i (ours.afterReq s v) x) ps))
+        → SameTurn pkt (theirs.afterResp T (viewState s) (eqb (codeOf v) 2) (there i s x) pkt tx) (cond (ours.isOpened s) (ours.requested (here i (ours.afterReq s v) x) ps) (ours.turned (here i (ours.afterReq s v) x) ps))
     after-req i Closed v x small e c = absurd (true≢false e)
     after-req i ReqSent verdict.the-variants.Ack x small e c = plain i AckSent x small c
     after-req i ReqSent verdict.the-variants.Nack x small e c = plain i ReqSent x small c
@@ -144,14 +145,14 @@ module _ {X P : Type 0} (T : theirs.Protocol P) (inj : X → Proto) (view : X �
     after-req i Opened verdict.the-variants.Nack x small e c = request-same i Opened ReqSent x c
     after-req i Opened verdict.the-variants.Rej x small e c = request-same i Opened ReqSent x c
 
-    code-small : (v : verdict.Verdict) → ours.codeOf v < 256
+    code-small : (v : verdict.Verdict) → codeOf v < 256
     code-small verdict.the-variants.Ack = lit< tt
     code-small verdict.the-variants.Nack = lit< tt
     code-small verdict.the-variants.Rej = lit< tt
 
     -- the reply's packet
     reply-carries : (j : ℕ) (a : theirs.Answer P) (r : Reply) → j < 256 → (k : SameReply T inj view stands a r)
-        → Carries (theirs.packetOf T (PPP (ours.codeOf (r .verdict)) j (Options (a .opts)))) (packetOf (protocolOf (inj (k .x))) (ours.codeOf (r .verdict)) j (contentOf (r .packet)))
+        → Carries (theirs.packetOf T (PPP (codeOf (r .verdict)) j (Options (a .opts)))) (packetOf (protocolOf (inj (k .x))) (codeOf (r .verdict)) j (contentOf (r .packet)))
     reply-carries j a r small k =
         carries-ppp (T .protocol) _ _ j (Options (a .opts)) _ (stands .number (k .x)) (code-small (r .verdict)) small (k .lists .is) (k .lists .len) (k .lists .bytes) (omega (arith, k .room, k .most))
 

@@ -15,6 +15,7 @@ use Rattle.laws.proofs.Be.{length-be}
 use Rattle.laws.proofs.Cases.{by-le, by-test, cond-both}
 use Rattle.options.specs.Wire.{lengthField}
 use Rattle.options.specs.Proto.{protocolOf}
+use Rattle.negotiation.specs.Messages.{echoBytes}
 use Rattle.negotiation.specs.Automaton as ours
 use Rattle.options.specs.declared.refusal.Refusal.the-variants.{EchoEmpty}
 use Rattle.options.specs.declared.proto.Proto.{Proto}
@@ -63,7 +64,7 @@ module _ {X P : Type 0} (T : theirs.Protocol P) (inj : X → Proto) (view : X �
   Same = SameTurn T inj view stands
 
   module _ (pkt : List ℕ) (bytes : Bytes pkt) where
-    echo-carries : (x : X) → 3 ≤ length pkt → Carries (theirs.packetOf T (Raw (drop 2 (set pkt 2 10)))) (ours.echoBytes (inj x) pkt)
+    echo-carries : (x : X) → 3 ≤ length pkt → Carries (theirs.packetOf T (Raw (drop 2 (set pkt 2 10)))) (echoBytes (inj x) pkt)
     echo-carries x h =
         let k = beBytes 2 (protocolOf (inj x)) in
         record {

@@ -5,7 +5,8 @@ use mathlib.Core.Bool.{false, not, _&&_}
 use mathlib.Core.List.{List}
 use Prim.Native.Nat.{ℕ}
 use Rattle.laws.proofs.Cases.{cond-ap, cond-all}
-use Rattle.negotiation.specs.Automaton.{isClosed, nextId}
+use Rattle.negotiation.specs.Messages.{nextId}
+use Rattle.negotiation.specs.Automaton.{isClosed}
 use Rattle.negotiation.specs.Pap as pap
 use Rattle.phases.specs.Phases as ours
 use Rattle.options.specs.declared.lcp.Lcp as lcp

@@ -7,7 +7,8 @@ use Prim.Native.Nat.{ℕ, _+_, _<_}
 use native.Mathlib.Nat.{mod-lt}
 use lib.Dec.{lit<}
 use Rattle.laws.proofs.Cases.{apart, by-test}
-use Rattle.negotiation.specs.Automaton.{isClosed, isOpened, nextId, requested, openedFsm}
+use Rattle.negotiation.specs.Messages.{nextId}
+use Rattle.negotiation.specs.Automaton.{isClosed, isOpened, requested, openedFsm}
 use Rattle.negotiation.specs.Pap as pap
 use Rattle.negotiation.specs.Pap.{openedPap, papRequested, withPapState, steppedPap}
 use Rattle.phases.specs.Phases as ours
@@ -74,7 +75,7 @@ module _ (o : Bool) (i : ℕ) (s : State) (x : lcp.Lcp) (c : papRecord.Pap) (j :
   unfolding ipv4cpPacket openedFsm requested
   opened-steps =
       ends (at Network o i s x c (nextId j) ReqSent y) (any-held Network o i (nextId j) s ReqSent x y hi (next-small j))
-      (more (request-carries ipv4cpProtocol proto.Ipv4cp viewIpv4cp ipv4cp-stands j ReqSent y) none)
+      (more (request-carries ipv4cpProtocol proto.Ipv4cp viewIpv4cp ipv4cp-stands j y) none)
 
   -- IPv4CP is opened in phase f: from Closed, or past the assert
   opens : (f : Phase) (r : theirs.Polled) → theirs.pollPpp (viewPpp (at f o i s x c j Closed y)) ≡ returns r
@@ -133,7 +134,7 @@ module _ (o : Bool) (i : ℕ) (m n : ℕ) (b : Bool) (c : papRecord.Pap) (j : �
       let p = at Establish false (nextId i) ReqSent (with a) c j t y in
       rw (open-lcp i (with a), shut-both p)
       (same (ends (ours.closesIpv4cp (ours.closesPap p)) (record { lcp-id = next-small i; ipv4cp-id = hj; pap = record { id = hc .id; bytes = hc .bytes } })
-      (more (request-carries lcpProtocol proto.Lcp viewLcp lcp-stands i ReqSent (with a)) none)))
+      (more (request-carries lcpProtocol proto.Lcp viewLcp lcp-stands i (with a)) none)))
 
   none-opens : (t : State) → Here Opened auth.the-variants.None t
   unfolding theirs.pollPpp ours.phaseOf ours.establishOf openedFsm requested

@@ -11,6 +11,7 @@ use lib.Dec.{ltb, eqb, lit<}
 use lib.ListN.{length, set}
 use Rattle.laws.specs.Each.{Bytes}
 use Rattle.laws.proofs.Cases.{by-test, cond-both}
+use Rattle.negotiation.specs.Messages.{nextId}
 use Rattle.negotiation.specs.Automaton as ours
 use Rattle.negotiation.specs.Pap.{PapTurn}
 use Rattle.options.specs.Wire.{protocolIn}
@@ -71,14 +72,14 @@ module _ (p : ppp.Ppp) (held : Held p) (pkt : List ℕ) where
   reject-same : Bytes pkt → SameReceived pkt (theirs.receivedBy Unknown (viewPpp p) pkt) (rejectOf p pkt)
   unfolding rejectOf rejectTurn
   reject-same bytes =
-      let i = ours.nextId (p .lcp .id) in
+      let i = nextId (p .lcp .id) in
       let q : Packet = packetOf lcpProtocol (PPP 8 i (RawData pkt)) in
       by-test (ltb 122 (length pkt))
       (λ t. rw t (long q refl (omega (arith, ltb-true 122 (length pkt) t)) refl))
       (λ t. rw t (same refl (record { lcp-id = next; ipv4cp-id = held .ipv4cp-id; pap = held .pap }) refl refl (λ e. absurd (false≢true e))
       (more (carries-ppp LCP 0xC021 8 i (RawData pkt) pkt refl (lit< tt) next refl refl bytes (omega (arith, ltb-false 122 (length pkt) t))) none)))
     where
-      next : ours.nextId (p .lcp .id) < 256
+      next : nextId (p .lcp .id) < 256
       next = mod-lt (p .lcp .id + 1) {m = 256} (lit< tt)
 
   -- an IPv4 packet and one under two bytes do not come here

@@ -15,7 +15,7 @@ use Rattle.options.specs.Wire.{pktOf, contentOf}
 use Rattle.options.specs.Options.{Walk, done, cut, opt, optBytes, sentBack}
 use Rattle.options.specs.Proto.{protocolOf, startOf, judgeOf, ownOf, ownNacked, nacksOf}
 use Rattle.options.specs.Reply.{rankOf, suggestion, listedOf, stepOf, replyOf}
-use Rattle.negotiation.specs.Automaton as ours
+use Rattle.negotiation.specs.Messages.{codeOf}
 use Rattle.options.specs.declared.refusal.Refusal.the-variants.{OptionCut, OptionLong, OptionsMany}
 use Rattle.options.specs.declared.refusal.Outcome.the-variants.{Done}
 use Rattle.options.specs.declared.proto.Proto.{Proto}
@@ -62,7 +62,7 @@ pub record Stands {X P : Type 0} (T : Protocol P) (inj : X → Proto) (view : X 
 
 -- ---- an answer under way
 
-code-rank : (v : verdict.Verdict) → ours.codeOf v ≡ rankOf v + 2
+code-rank : (v : verdict.Verdict) → codeOf v ≡ rankOf v + 2
 code-rank verdict.the-variants.Ack = refl
 code-rank verdict.the-variants.Nack = refl
 code-rank verdict.the-variants.Rej = refl
@@ -73,7 +73,7 @@ module _ {X P : Type 0} (T : Protocol P) (inj : X → Proto) (view : X → P) (s
     pub x : X
     pub proto : a .proto ≡ view x
     pub case : r .proto ≡ inj x
-    pub code : a .code ≡ ours.codeOf (r .verdict)
+    pub code : a .code ≡ codeOf (r .verdict)
     pub count : length (a .opts) ≡ r .count
     pub lists : Lists (a .opts) (contentOf (r .packet))
     pub going : r .outcome ≡ Done
@@ -132,7 +132,7 @@ module _ {X P : Type 0} (T : Protocol P) (inj : X → Proto) (view : X → P) (s
         let more : Lists (a .opts ++ (record { code = c; value = d } ∷ [])) (contentOf (pktOf longer)) = rw content-pkt (lists-more c d (same .lists) small bytes l) in
         let size : length (a .opts ++ (record { code = c; value = d } ∷ [])) ≡ r .count + 1 = rw (length-append, same .count) refl in
         let fits : length (contentOf (pktOf longer)) ≤ 6 * length (a .opts ++ (record { code = c; value = d } ∷ [])) = rw (content-pkt longer, length-append (contentOf (r .packet)) (optBytes c d), size) (omega (arith, same .count, same .room)) in
-        let same-code : rankOf (r .verdict) + 2 ≡ ours.codeOf v = rw h (sym (code-rank v)) in
+        let same-code : rankOf (r .verdict) + 2 ≡ codeOf v = rw h (sym (code-rank v)) in
         rw (code-is, le-ltb (rankOf (r .verdict) + 2) (rankOf v + 2) (omega arith), eq-eqb (rankOf (r .verdict) + 2) (rankOf v + 2) (omega arith), le-ltb 4 (length d) l)
         (by-le 6 (r .count)
         (λ k. rw (listed-many r (inj x) v c d h l k, same .count, le-leb 6 (r .count) k) (off (refused-at OptionsMany refl)))

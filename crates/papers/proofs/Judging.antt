@@ -17,6 +17,7 @@ use Rattle.options.specs.Wire.{packetOf}
 use Rattle.options.specs.Options.{walkOf}
 use Rattle.options.specs.Proto.{protocolOf, ownNacked, nacksOf}
 use Rattle.options.proofs.Fair.{length-packet}
+use Rattle.negotiation.specs.Messages.{termAckBytes}
 use Rattle.negotiation.specs.Automaton.{afterTerm, isClosed, isOpened, turned, withState, requested, ackOf, afterNacked, nackWith, nackOf, termAckOf, ignoredTurn, echoOf, actOf, handleOf}
 use Rattle.papers.proofs.Packets.{Sent, read-as}
 use Rattle.papers.proofs.Walked.{walkOptions, walk-options}
@@ -45,7 +46,7 @@ terminates : (f : OptionFsm) {i : ℕ} → i < 256 → (termAckOf f i .fsm ≡ f
 unfolding termAckOf
 terminates f {i} h = (
   refl,
-  record { bytes = packetOf (protocolOf (f .proto)) 6 i []; only = refl; packet = sent-by (f .proto) 6 i [] (omega arith) h (omega arith) },
+  record { bytes = termAckBytes (f .proto) i; only = refl; packet = sent-by (f .proto) 6 i [] (omega arith) h (omega arith) },
 )
 
 -- ---- Configure-Nak and Configure-Reject

@@ -12,7 +12,7 @@ use Rattle.negotiation.specs.declared.pap.PapState.the-variants.{ReqSent, Opene
 use Rattle.papers.specs.Rfc1661.{Carried}
 use Rattle.papers.specs.Rfc1334.{pap, authenticateAck, authenticateNak, Answer}
 use Rattle.options.specs.Wire.{lengthField}
-use Rattle.negotiation.specs.Automaton.{nextId}
+use Rattle.negotiation.specs.Messages.{nextId}
 use Rattle.negotiation.specs.Pap.{isPapSent, nameOf, passwordOf, papBytes, withPapState, steppedPap, PapTurn, papTurned, papRequested, papActOf, papHandleOf, openedPap}
 use Rattle.papers.proofs.Packets.{read-as}
 use Rattle.papers.proofs.Layouts1334.{Authenticates, authenticates}

@@ -8,7 +8,7 @@ use lib.ListN.{length, take, drop, getD, length-append}
 use lib.Seq.{take-length, take-append-seam, drop-append-seam}
 use Rattle.negotiation.specs.declared.pap.Pap.{Pap}
 use Rattle.papers.specs.Rfc1334.{pap, authenticateRequest, Request}
-use Rattle.negotiation.specs.Automaton.{nextId}
+use Rattle.negotiation.specs.Messages.{nextId}
 use Rattle.negotiation.specs.Pap.{nameOf, passwordOf, credentialBytes, papBytes}
 use Rattle.negotiation.proofs.Paps.{credentials-short}
 use Rattle.papers.proofs.Packets.{Sent, laid-packet}

@@ -5,6 +5,7 @@ use Prim.Native.Nat.{ℕ}
 use mathlib.Core.Path.{_≡_, refl, sym, subst, _∙_}
 use mathlib.Core.Bool.{Bool, true, false}
 use mathlib.Core.List.{List, []}
+use native.Mathlib.Omega.{arith}
 use lib.ListN.{getD}
 use Rattle.laws.specs.Each.{Bytes}
 use Rattle.options.specs.declared.refusal.Outcome.the-variants.{Done}
@@ -15,7 +16,8 @@ use Rattle.options.specs.Wire.{protocolIn}
 use Rattle.options.specs.Options.{walkOf}
 use Rattle.options.specs.Proto.{startOf, nacksOf}
 use Rattle.options.specs.Reply.{freshReply}
-use Rattle.negotiation.specs.Automaton.{isClosed, requestBytes, requested, afterNacked, nackWith, handleOf}
+use Rattle.negotiation.specs.Messages.{nextId, requestBytes}
+use Rattle.negotiation.specs.Automaton.{isClosed, requested, afterNacked, nackWith, handleOf}
 use Rattle.papers.proofs.Reading.{Readable, reads-packet, dataIn, data-bytes}
 use Rattle.papers.proofs.Walked.{optionsIn, whole-options, isWhole}
 use Rattle.papers.proofs.Answers.{reply-whole, nacks-whole}
@@ -31,7 +33,7 @@ optionsOf s = optionsIn (walkOf (dataIn s))
 -- a Nak's or a Reject's list, taken up, and the request that follows
 pub record TakenUp (f : OptionFsm) (rej : Bool) (s : List ℕ) : Type 0 where
   pub turn : handleOf f s ≡ requested (afterNacked f (takenUp rej (f .proto) (optionsOf s))) []
-  pub asks : Requests (afterNacked f (takenUp rej (f .proto) (optionsOf s))) (requestBytes (afterNacked f (takenUp rej (f .proto) (optionsOf s))))
+  pub asks : Requests (takenUp rej (f .proto) (optionsOf s)) (nextId (f .id)) (requestBytes (takenUp rej (f .proto) (optionsOf s)) (nextId (f .id)))
 
 -- a Configure-Request's list, answered, and the request that may follow
 pub record Told (f : OptionFsm) (s : List ℕ) : Type 0 where
@@ -63,7 +65,7 @@ module _ (f : OptionFsm) (n : isClosed (f .state) ≡ false) (h : Fits (f .proto
       → TakenUp f rej s
   asks-on rej l t =
       let v = values-bytes l (data-bytes (reads-packet s b r .carried) b) in
-      record { turn = t; asks = requests _ (fits-taken rej (f .proto) (optionsOf s) v h) }
+      record { turn = t; asks = requests _ (nextId (f .id)) (omega arith) (fits-taken rej (f .proto) (optionsOf s) v h) }
 
   pub received-nak : getD s 2 0 ≡ configureNak → TakenUp f false s
   received-nak e =

@@ -21,7 +21,8 @@ use Rattle.options.specs.Wire.{packetOf, contentOf}
 use Rattle.options.specs.Options.{walkOf}
 use Rattle.options.specs.Proto.{protocolOf, startOf}
 use Rattle.options.proofs.Fair.{length-packet, fair-answer}
-use Rattle.negotiation.specs.Automaton.{isClosed, isOpened, Turn, requestBytes, requested, codeOf, replyBytes, repliedTurn, unless, reqWith, reqOf, actOf, handleOf}
+use Rattle.negotiation.specs.Messages.{nextId, requestBytes, codeOf, replyBytes}
+use Rattle.negotiation.specs.Automaton.{isClosed, isOpened, Turn, requested, repliedTurn, unless, reqWith, reqOf, actOf, handleOf}
 use Rattle.papers.proofs.Packets.{Sent}
 use Rattle.papers.proofs.Verdicts.{verdictOf, judgedAll}
 use Rattle.papers.proofs.Listed.{answers, Top}
@@ -54,7 +55,7 @@ pub record Replied (f : OptionFsm) (i : ℕ) (request : List ℕ) (os : List Opt
   -- what the options change
   pub proto : t .fsm .proto ≡ judgedAll (startOf (f .proto)) os
   -- from Opened an own request follows
-  pub sent : t .sent ≡ bytes ∷ cond (isOpened (f .state)) (requestBytes (record { id = f .id; state = f .state; proto = t .fsm .proto }) ∷ []) []
+  pub sent : t .sent ≡ bytes ∷ cond (isOpened (f .state)) (requestBytes (t .fsm .proto) (nextId (f .id)) ∷ []) []
 
 pub done-with : (o : Outcome) (f : OptionFsm) (t : Turn) → isDone (unless o f t .outcome) ≡ true → o ≡ Done
 done-with Done f t d = refl
@@ -78,7 +79,7 @@ module _ (f : OptionFsm) (i : ℕ) (b : i < 256) {request : List ℕ} {os : List
       omega (arith, length-take (r .packet .len) (r .packet .bytes), fair .ready .most, fair .ready .room) in
       let x = answer-code (r .proto) (r .verdict) i (contentOf (r .packet)) b n in
       let made : (t : Turn) → t .fsm .proto ≡ r .proto
-      → t .sent ≡ replyBytes i r ∷ cond (isOpened (f .state)) (requestBytes (record { id = f .id; state = f .state; proto = r .proto }) ∷ []) []
+      → t .sent ≡ replyBytes i r ∷ cond (isOpened (f .state)) (requestBytes (r .proto) (nextId (f .id)) ∷ []) []
       → Replied f i request os t = λ t y z.
       record {
         verdict = r .verdict;

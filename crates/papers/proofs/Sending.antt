@@ -18,7 +18,8 @@ use Rattle.papers.specs.Rfc1332.{ipcp, IpAddress, PrimaryDns, SecondaryD
 use Rattle.options.specs.Wire.{packetOf}
 use Rattle.options.specs.Proto.{protocolOf, ownOf}
 use Rattle.options.proofs.Fair.{isLcp, own-short}
-use Rattle.negotiation.specs.Automaton.{turned, stepped, nextId, requestBytes, requested, rejectBytes, rejectTurn, openedFsm}
+use Rattle.negotiation.specs.Messages.{nextId, requestBytes, rejectBytes}
+use Rattle.negotiation.specs.Automaton.{turned, stepped, requested, rejectTurn, openedFsm}
 use Rattle.papers.proofs.Packets.{Sent, laid-packet}
 use Rattle.papers.proofs.Layouts1661.{Carries, laid-both}
 use Rattle.papers.proofs.Layouts1662.{laid-map}
@@ -75,26 +76,26 @@ own-laid (OfIpv4cp p) h =
       laid = laid-both (a .laid) (laid-both (b .laid) (c .laid));
     }
 
--- a Configure-Request of f
-pub record Requests (f : OptionFsm) (bytes : List ℕ) : Type 0 where
+-- a Configure-Request of p with the id i
+pub record Requests (p : Proto) (i : ℕ) (bytes : List ℕ) : Type 0 where
   pub info : List ℕ
-  pub packet : Sent bytes (numberFor (f .proto)) configureRequest (nextId (f .id)) info
-  pub own : OwnLaid (f .proto) info
+  pub packet : Sent bytes (numberFor p) configureRequest i info
+  pub own : OwnLaid p info
 
-pub requests : (f : OptionFsm) → Fits (f .proto) → Requests f (requestBytes f)
-requests f h =
+pub requests : (p : Proto) (i : ℕ) → i < 256 → Fits p → Requests p i (requestBytes p i)
+requests p i k h =
     record {
-      info = ownOf (f .proto);
-      packet = sent-by (f .proto) 1 (nextId (f .id)) (ownOf (f .proto)) (omega arith) (omega arith) (omega (arith, own-short (f .proto)));
-      own = own-laid (f .proto) h;
+      info = ownOf p;
+      packet = sent-by p 1 i (ownOf p) (omega arith) k (omega (arith, own-short p));
+      own = own-laid p h;
     }
 
 -- it is what an automaton sends that asks, behind what was to be sent before, and all that it sends as it opens
-pub asked : (f : OptionFsm) (ps : List (List ℕ)) → requested f ps .sent ≡ ps ++ (requestBytes f ∷ [])
+pub asked : (f : OptionFsm) (ps : List (List ℕ)) → requested f ps .sent ≡ ps ++ (requestBytes (f .proto) (nextId (f .id)) ∷ [])
 unfolding requested
 asked f ps = refl
 
-pub opened : (f : OptionFsm) → openedFsm f .sent ≡ requestBytes f ∷ []
+pub opened : (f : OptionFsm) → openedFsm f .sent ≡ requestBytes (f .proto) (nextId (f .id)) ∷ []
 unfolding openedFsm requested
 opened f = refl
 
@@ -105,13 +106,14 @@ id-changes i e = omega arith
 -- ---- Protocol-Reject
 
 -- a packet of another protocol, encapsulated as the paper has it, goes back behind its number
-pub record Rejects (f : OptionFsm) (protocol : ℕ) (information bytes : List ℕ) : Type 0 where
+pub record Rejects (i protocol : ℕ) (information bytes : List ℕ) : Type 0 where
   pub info : List ℕ
-  pub packet : Sent bytes lcp protocolReject (nextId (f .id)) info
+  pub packet : Sent bytes lcp protocolReject i info
   pub rejected : Rejected info protocol information
 
 pub rejects : (f : OptionFsm) {pkt information : List ℕ} {protocol : ℕ} → Encapsulated pkt protocol information → length pkt ≤ 122
-    → (rejectTurn f pkt ≡ turned (stepped f) (rejectBytes (f .id) pkt ∷ [])) × Rejects f protocol information (rejectBytes (f .id) pkt)
+    → (rejectTurn f pkt ≡ turned (stepped f) (rejectBytes (nextId (f .id)) pkt ∷ []))
+    × Rejects (nextId (f .id)) protocol information (rejectBytes (nextId (f .id)) pkt)
 unfolding rejectTurn
 rejects f {pkt} x h = (
   rw (le-ltb _ _ h) refl,

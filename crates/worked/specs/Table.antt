@@ -12,7 +12,7 @@ use Rattle.options.specs.Refusal.{numberOf, valuesOf}
 use Rattle.options.specs.declared.refusal.Outcome.{Outcome}
 use Rattle.options.specs.declared.refusal.Outcome.the-variants.{Done, Refused}
 use Rattle.negotiation.specs.Pap.{papWith, papBytes}
-use Rattle.negotiation.specs.Automaton.{requestBytes}
+use Rattle.negotiation.specs.Messages.{nextId, requestBytes}
 use Rattle.phases.specs.Phases.{freshPpp, ipv4cpIn, pollOf, turnOf, openOf, PppTurn}
 use Rattle.negotiation.specs.declared.states.State as fsm
 use Rattle.phases.specs.declared.ppp.Ppp.{Ppp}
@@ -125,7 +125,7 @@ table =
     -- K8: PAP, "a" and "b"
     ∷ row (papBytes (papWith (0x61 ∷ []) (0x62 ∷ []))) (0xC0 ∷ 0x23 ∷ 0x01 ∷ 0x02 ∷ 0x00 ∷ 0x08 ∷ 0x01 ∷ 0x61 ∷ 0x01 ∷ 0x62 ∷ [])
     -- K9: the first IPv4CP packet
-    ∷ row (requestBytes (ipv4cpIn (freshPpp [] [] .ipv4cp)))
+    ∷ row (requestBytes (ipv4cpIn (freshPpp [] [] .ipv4cp) .proto) (nextId (freshPpp [] [] .ipv4cp .id)))
     (0x80 ∷ 0x21 ∷ 0x01 ∷ 0x02 ∷ 0x00 ∷ 0x16 ∷ 0x03 ∷ 0x06 ∷ 0x00 ∷ 0x00 ∷ 0x00 ∷ 0x00 ∷ 0x81 ∷ 0x06 ∷ 0x00 ∷ 0x00 ∷ 0x00 ∷ 0x00 ∷ 0x83 ∷ 0x06 ∷ 0x00 ∷ 0x00 ∷ 0x00 ∷ 0x00 ∷ [])
     -- K10: a Rej, still ReqSent, remote map 0
     ∷ row (answers (turnOf asked k10)) (1 ∷ 0 ∷ 0xC0 ∷ 0x21 ∷ 0x04 ∷ 0x07 ∷ 0x00 ∷ 0x0A ∷ 0x05 ∷ 0x06 ∷ 0x01 ∷ 0x02 ∷ 0x03 ∷ 0x04 ∷ [])

@@ -5,8 +5,8 @@ use lib.ListN.{length-take, length-drop}
 use Rattle.laws.specs.Be.{beBytes}
 use Rattle.options.proofs.Wires.{pushed-both, pushed-fresh, pushes}
 use Rattle.options.proofs.Walks.{rest}
-use Rattle.negotiation.proofs.option_fsm.echo_packet.Statement.{statement}
-use Rattle.negotiation.proofs.option_fsm.echo_packet.Tie as tie
+use Rattle.negotiation.proofs.messages.echo_packet.Statement.{statement}
+use Rattle.negotiation.proofs.messages.echo_packet.Tie as tie
 
 protocol-requires : tie.Need-protocol-requires
 protocol-requires c κs = search needs

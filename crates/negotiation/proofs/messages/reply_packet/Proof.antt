@@ -1,7 +1,7 @@
 use mathlib.Core.Path.{refl, _∙_}
 use borrow.Author.Needs.{needs}
-use Rattle.negotiation.proofs.option_fsm.reply_packet.Statement.{statement}
-use Rattle.negotiation.proofs.option_fsm.reply_packet.Tie as tie
+use Rattle.negotiation.proofs.messages.reply_packet.Statement.{statement}
+use Rattle.negotiation.proofs.messages.reply_packet.Tie as tie
 
 protocol-requires : tie.Need-protocol-requires
 protocol-requires c κs = search needs
