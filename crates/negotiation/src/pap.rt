@@ -6,6 +6,7 @@ ghost use lib.ListN.{length};
 ghost use lib.Seq.{sets};
 ghost use Rattle.options.specs.Wire.{pktOf, packetOf};
 ghost use Rattle.negotiation.specs.Pap.{isPapSent, isPapOpened, fitsCredentials, papWith, freshPap, credentialBytes, papBytes, withPapState, steppedPap, papHandled, papTurned, papRequested, papActOf, papHandleOf, openedPap};
+use crate::messages::next_id;
 use crate::replies::Replies;
 use crate::replies::emit_packet;
 use options::refusal::Outcome;
@@ -111,7 +112,7 @@ impl Pap {
         let bytes = self.bytes;
         Pap {
             state: s,
-            id: std::num::wrapping_add_u8(self.id, 1),
+            id: next_id(self.id),
             username_len: self.username_len,
             password_len: self.password_len,
             bytes,
@@ -124,7 +125,7 @@ impl Pap {
         let n = self.username_len;
         let m = self.password_len;
         let bytes = self.bytes;
-        let id = std::num::wrapping_add_u8(self.id, 1);
+        let id = next_id(self.id);
         let all = &bytes[..];
         if is_within(n, m) {
             return credentials_packet(id, &all[..n], &all[n..n + m]);

@@ -22,8 +22,8 @@ fits c = sym (c .before .is-within .ensures) ∙ c .if1 .taken
 within : (c : tie.Then1) → c .before .before .before .before .before .args .self .«username_len» + c .before .before .before .before .before .args .self .«password_len» ≤ 120
 within c = fits-sum _ _ (fits c)
 
-wrapping-add-u8-requires : tie.Need-wrapping-add-u8-requires
-wrapping-add-u8-requires c κs = search needs
+next-id-requires : tie.Need-next-id-requires
+next-id-requires c κs = search needs
 
 slice-aggregate-all : tie.Need-slice-aggregate-all
 slice-aggregate-all c = search needs
@@ -55,7 +55,7 @@ returns : tie.Need-returns
 returns c =
     let a = c .before .before .before .before .before .before .before .before .args .self in
     let e : a .«username_len» + a .«password_len» - a .«username_len» ≡ a .«password_len» = omega arith in
-    rw (fits (c .before .before .before)) (rw (c .before .before .before .before .before .before .wrapping-add-u8 .ensures, e) at (c .credentials-packet .ensures))
+    rw (fits (c .before .before .before)) (rw (c .before .before .before .before .before .before .next-id .ensures, e) at (c .credentials-packet .ensures))
 
 slice-aggregate-credentials-packet-2 : tie.Need-slice-aggregate-credentials-packet-2
 slice-aggregate-credentials-packet-2 c = search needs
@@ -67,13 +67,13 @@ credentials-packet-requires-2 : tie.Need-credentials-packet-requires-2
 credentials-packet-requires-2 c κs = search needs
 
 returns-2 : tie.Need-returns-2
-returns-2 c = rw (wide (c .before .before .before)) (rw (c .before .before .before .before .before .before .wrapping-add-u8 .ensures) at (c .credentials-packet2 .ensures))
+returns-2 c = rw (wide (c .before .before .before)) (rw (c .before .before .before .before .before .before .next-id .ensures) at (c .credentials-packet2 .ensures))
 
 pub request-packet-spec : {M : Type 1} → statement M
 request-packet-spec =
     tie.close
     (tie.spec
-    wrapping-add-u8-requires
+    next-id-requires
     slice-aggregate-all
     is-within-requires
     slice-aggregate-credentials-packet
