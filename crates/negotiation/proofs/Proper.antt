@@ -20,7 +20,7 @@ use Rattle.options.specs.declared.refusal.Refusal.the-variants.{ConfigureShort,
 use Rattle.options.specs.Refusal.{isDone}
 use Rattle.options.specs.Wire.{lengthField}
 use Rattle.options.specs.Options.{walkOf}
-use Rattle.options.proofs.Fair.{isLcp, Short, Fair, fair-answer, nacks-kind}
+use Rattle.options.proofs.Fair.{Short, Fair, fair-answer, nacks-kind}
 use Rattle.negotiation.specs.declared.option_fsm.OptionFsm.{OptionFsm}
 use Rattle.negotiation.specs.declared.states.State.the-variants.{ReqSent}
 use Rattle.negotiation.specs.Messages.{nextId, requestBytes, replyBytes, termAckBytes, echoBytes, rejectBytes}
@@ -31,11 +31,11 @@ use Rattle.negotiation.proofs.Lengths.{request-length, reply-length, te
 pub record Proper (f : OptionFsm) (t : Turn) : Type 0 where
   pub few : length (t .sent) ≤ 2
   pub short : Each Short (t .sent)
-  pub kind : isLcp (t .fsm .proto) ≡ isLcp (f .proto)
+  pub kind : protocolOf (t .fsm .proto) ≡ protocolOf (f .proto)
   pub left : isDone (t .outcome) ≡ false → (t .fsm ≡ f) × (t .sent ≡ []) × (t .echoed ≡ false)
 
 module _ (f : OptionFsm) where
-  proper-done : (g : OptionFsm) (ps : List (List ℕ)) → isLcp (g .proto) ≡ isLcp (f .proto) → length ps ≤ 2 → Each Short ps → Proper f (turned g ps)
+  proper-done : (g : OptionFsm) (ps : List (List ℕ)) → protocolOf (g .proto) ≡ protocolOf (f .proto) → length ps ≤ 2 → Each Short ps → Proper f (turned g ps)
   proper-done g ps e h k = record { few = h; short = k; kind = e; left = λ x. absurd (true≢false x) }
 
   proper-refused : (why : Refusal) → Proper f (refusedTurn f why)
@@ -46,10 +46,10 @@ module _ (f : OptionFsm) where
   proper-ignored = proper-done f [] refl (omega arith) tt
 
   -- one packet
-  proper-one : (g : OptionFsm) (l : List ℕ) → isLcp (g .proto) ≡ isLcp (f .proto) → Short l → Proper f (turned g (l ∷ []))
+  proper-one : (g : OptionFsm) (l : List ℕ) → protocolOf (g .proto) ≡ protocolOf (f .proto) → Short l → Proper f (turned g (l ∷ []))
   proper-one g l e h = proper-done g (l ∷ []) e (omega arith) (h, tt)
 
-  proper-requested : (g : OptionFsm) (ps : List (List ℕ)) → isLcp (g .proto) ≡ isLcp (f .proto) → length ps ≤ 1 → Each Short ps → Proper f (requested g ps)
+  proper-requested : (g : OptionFsm) (ps : List (List ℕ)) → protocolOf (g .proto) ≡ protocolOf (f .proto) → length ps ≤ 1 → Each Short ps → Proper f (requested g ps)
   unfolding requested
   proper-requested g ps e h k =
       let l = requestBytes (g .proto) (nextId (g .id)) in
@@ -60,7 +60,7 @@ module _ (f : OptionFsm) where
   proper-unless Done t h = h
   proper-unless (Refused why) t h = proper-refused why
 
-  proper-req : (i : ℕ) (r : Reply) → Fair (isLcp (f .proto)) r → Proper f (reqWith f i r)
+  proper-req : (i : ℕ) (r : Reply) → Fair (protocolOf (f .proto)) r → Proper f (reqWith f i r)
   unfolding reqWith
   proper-req i r fair =
       let s : length (replyBytes i r) ≤ 128 = omega (arith, reply-length i r (fair .ready)) in
@@ -69,11 +69,11 @@ module _ (f : OptionFsm) where
       (proper-requested (afterReply f r) (replyBytes i r ∷ []) (fair .kind) (omega arith) (s, tt))
       (proper-one (afterReply f r) (replyBytes i r) (fair .kind) s))
 
-  proper-nack : (n : Nacked) → isLcp (n .proto) ≡ isLcp (f .proto) → Proper f (nackWith f n)
+  proper-nack : (n : Nacked) → protocolOf (n .proto) ≡ protocolOf (f .proto) → Proper f (nackWith f n)
   unfolding nackWith
   proper-nack n e = proper-unless (n .outcome) _ (proper-requested (afterNacked f (n .proto)) [] e (omega arith) tt)
 
-  proper-term : (g : OptionFsm) (i : ℕ) → isLcp (g .proto) ≡ isLcp (f .proto) → Proper f (termAckOf g i)
+  proper-term : (g : OptionFsm) (i : ℕ) → protocolOf (g .proto) ≡ protocolOf (f .proto) → Proper f (termAckOf g i)
   unfolding termAckOf
   proper-term g i e = proper-one g (termAckBytes (g .proto) i) e (omega (arith, term-ack-length (g .proto) i))
 

@@ -17,9 +17,9 @@ use Rattle.options.specs.declared.refusal.Refusal.the-variants.{OptionCu
 use Rattle.options.specs.declared.wire.Packet.{Packet}
 use Rattle.options.specs.Refusal.{isDone}
 use Rattle.options.specs.Wire.{pktOf, contentOf}
-use Rattle.options.specs.Options.{optionOf, optBytes, sentBack}
-use Rattle.options.specs.Proto.{judgeOf}
-use Rattle.options.specs.Reply.{rankOf, refusedBy, withProto, listing, listedOf, suggestion, stepOf, replyOf, Ready}
+use Rattle.options.specs.Options.{maxOptions, maxOptionLen, optionOf, optBytes, sentBack}
+use Rattle.options.specs.Proto.{suggestionOf, judgeOf}
+use Rattle.options.specs.Reply.{rankOf, refusedBy, withProto, listing, listedOf, stepOf, replyOf, Ready}
 use Rattle.options.proofs.Walks.{walkLast, last-done, last-cut, last-opt}
 
 module _ (r : Reply) (p : Proto) (v : Verdict) (c : ℕ) (d : List ℕ) where
@@ -27,24 +27,24 @@ module _ (r : Reply) (p : Proto) (v : Verdict) (c : ℕ) (d : List ℕ) where
   unfolding listedOf
   listed-lower h = rw (lt-ltb _ _ h) refl
 
-  pub listed-long : rankOf (r .verdict) ≤ rankOf v → 4 < length d → listedOf r p v c d ≡ refusedBy r OptionLong
+  pub listed-long : rankOf (r .verdict) ≤ rankOf v → maxOptionLen < length d → listedOf r p v c d ≡ refusedBy r OptionLong
   unfolding listedOf
   listed-long h l = rw (le-ltb _ _ h, lt-ltb _ _ l) refl
 
-  pub listed-higher : rankOf (r .verdict) < rankOf v → length d ≤ 4 → listedOf r p v c d ≡ listing v 1 (optBytes c d) p
+  pub listed-higher : rankOf (r .verdict) < rankOf v → length d ≤ maxOptionLen → listedOf r p v c d ≡ listing v 1 (optBytes c d) p
   unfolding listedOf
   listed-higher h l =
       let k : rankOf (r .verdict) ≤ rankOf v = omega arith in
       rw (le-ltb _ _ k, le-ltb _ _ l, lt-ltb _ _ h) refl
 
-  pub listed-many : rankOf (r .verdict) ≡ rankOf v → length d ≤ 4 → 6 ≤ r .count → listedOf r p v c d ≡ refusedBy r OptionsMany
+  pub listed-many : rankOf (r .verdict) ≡ rankOf v → length d ≤ maxOptionLen → maxOptions ≤ r .count → listedOf r p v c d ≡ refusedBy r OptionsMany
   unfolding listedOf
   listed-many h l m =
       let j : rankOf (r .verdict) ≤ rankOf v = omega arith in
       let k : rankOf v ≤ rankOf (r .verdict) = omega arith in
       rw (le-ltb _ _ j, le-ltb _ _ l, le-ltb _ _ k, le-leb _ _ m) refl
 
-  pub listed-more : rankOf (r .verdict) ≡ rankOf v → length d ≤ 4 → r .count < 6
+  pub listed-more : rankOf (r .verdict) ≡ rankOf v → length d ≤ maxOptionLen → r .count < maxOptions
       → listedOf r p v c d ≡ listing v (r .count + 1) (contentOf (r .packet) ++ optBytes c d) p
   unfolding listedOf
   listed-more h l m =
@@ -57,11 +57,11 @@ pub listing-of : (v : Verdict) (n : ℕ) (l : List ℕ) (p : Proto) {b : Packet}
     → record { outcome = listing v n l p .outcome; verdict = v; count = n; packet = b; proto = p } ≡ listing v n l p
 listing-of v n l p e = rw e refl
 
--- one option: judged, its value chosen, listed
-pub step-of : (r s : Reply) (j : Judged) (c : ℕ) (d b : List ℕ) → j ≡ judgeOf (r .proto) c d suggestion
-    → b ≡ sentBack (j .verdict) d suggestion → s ≡ listedOf r (j .proto) (j .verdict) c b → s ≡ stepOf r c d
+-- one option: judged, its value chosen, listed; l is what is suggested
+pub step-of : (r s : Reply) (j : Judged) (c : ℕ) (d l b : List ℕ) → l ≡ suggestionOf (r .proto) → j ≡ judgeOf (r .proto) c d
+    → b ≡ sentBack (j .verdict) d l → s ≡ listedOf r (j .proto) (j .verdict) c b → s ≡ stepOf r c d
 unfolding stepOf
-step-of r s j c d b e f g = g ∙ rw (f, e) refl
+step-of r s j c d l b h e f g = g ∙ rw (f, h, e) refl
 
 -- a refusal leaves what it was given to hold
 pub ready-refused : {r s : Reply} {why : Refusal} → Ready r → s ≡ refusedBy r why → Ready s

@@ -9,7 +9,7 @@ use lib.ListN.{length, replicate, length-append, length-take, length-replicate}
 use lib.Seq.{take-append-seam, drop-append-add, sets-eq}
 use Rattle.laws.proofs.Lists.{drop-replicate}
 use Rattle.options.specs.declared.wire.Packet.{Packet}
-use Rattle.options.specs.Wire.{pktOf, contentOf, Tidy, Pushed, pushedAll}
+use Rattle.options.specs.Wire.{maxPacket, pktOf, contentOf, Tidy, Pushed, pushedAll}
 
 -- a packet holds what it was made of
 pub content-pkt : (l : List ℕ) → contentOf (pktOf l) ≡ l
@@ -34,15 +34,15 @@ pub content-of : {q : Packet} {l : List ℕ} → q ≡ pktOf l → contentOf q �
 content-of {q} {l} e = rw e (content-pkt l)
 
 -- bytes behind those held, where there is room
-push-pkt : (l d : List ℕ) → length l + length d ≤ 128 → pushedAll (pktOf l) d ≡ pktOf (l ++ d)
+push-pkt : (l d : List ℕ) → length l + length d ≤ maxPacket → pushedAll (pktOf l) d ≡ pktOf (l ++ d)
 unfolding pktOf pushedAll
 push-pkt l d h =
-    let z : List ℕ = replicate (128 - length l) 0 in
+    let z : List ℕ = replicate (maxPacket - length l) 0 in
     let long : length l + length d ≤ length (l ++ z) = rw (length-append, length-replicate) (omega arith) in
-    let e : 128 - length l ≡ length d + (128 - (length l + length d)) = omega arith in
-    rw (le-leb (length l + length d) 128 h, sets-eq d (l ++ z) (length l) long, take-append-seam l z, drop-append-add l z (length d), e, drop-replicate, length-append) refl
+    let e : maxPacket - length l ≡ length d + (maxPacket - (length l + length d)) = omega arith in
+    rw (le-leb (length l + length d) maxPacket h, sets-eq d (l ++ z) (length l) long, take-append-seam l z, drop-append-add l z (length d), e, drop-replicate, length-append) refl
 
-pub pushes : {p r : Packet} {d : List ℕ} → r ≡ pushedAll p d → Tidy p → p .len + length d ≤ 128 → Pushed p r d
+pub pushes : {p r : Packet} {d : List ℕ} → r ≡ pushedAll p d → Tidy p → p .len + length d ≤ maxPacket → Pushed p r d
 pushes {p} {r} {d} e t h =
     let n : p .len ≡ length (contentOf p) = len-of _ t in
     let is : r ≡ pktOf (contentOf p ++ d) = e ∙ ap (λ (x : Packet). pushedAll x d) t ∙ push-pkt (contentOf p) d (omega arith) in

@@ -1,17 +1,17 @@
 -- IPv4CP's options (document 01, 'Negotiation'): RFC 1332 and RFC 1877.
 use mathlib.Core.Bool.{Bool, true, false, cond, not, _&&_}
-use mathlib.Core.List.{List, [], _++_}
+use mathlib.Core.List.{List, _++_}
 use Prim.Native.Nat.{ℕ}
 use lib.Dec.{eqb}
 use lib.ListN.{length}
-use Rattle.laws.specs.Be.{beOf, beBytes}
+use Rattle.laws.specs.Be.{beOf}
 use Rattle.options.specs.declared.ipv4cp.IpOption.{IpOption}
 use Rattle.options.specs.declared.ipv4cp.Shown.{Shown}
 use Rattle.options.specs.declared.ipv4cp.Shown.the-variants.{Absent, At}
 use Rattle.options.specs.declared.ipv4cp.Ipv4cp.{Ipv4cp}
 use Rattle.options.specs.declared.ipv4cp.Ipv4cpJudged.{Ipv4cpJudged}
 use Rattle.options.specs.declared.proto.Verdict.the-variants.{Ack, Rej}
-use Rattle.options.specs.Options.{optBytes}
+use Rattle.options.specs.Options.{ownField}
 
 abbrev pub freshIp : IpOption
 freshIp = record { address = 0; «is_rejected» = false }
@@ -25,7 +25,7 @@ shownIp o = cond (o .«is_rejected») Absent (shown (o .address))
 
 -- an own option is sent until it is dropped
 abbrev pub ownIp : IpOption → ℕ → List ℕ
-ownIp o c = cond (o .«is_rejected») [] (optBytes c (beBytes 4 (o .address)))
+ownIp o c = ownField (o .«is_rejected») c (o .address)
 
 -- a Nack of 4 bytes replaces the address, a Rej or any other Nack drops the option
 abbrev pub ipNacked : IpOption → List ℕ → Bool → IpOption

@@ -1,13 +1,31 @@
 -- Options in a list of bytes: one at its front, and all of them up to the end or to the first that is cut.
-use mathlib.Core.Bool.{cond}
+use mathlib.Core.Bool.{Bool, cond}
 use mathlib.Core.List.{List, [], _∷_}
-use Prim.Native.Nat.{ℕ, zero, suc, _+_, _-_}
+use Prim.Native.Nat.{ℕ, zero, suc, _+_, _-_, _*_}
 use lib.Dec.{ltb}
 use lib.ListN.{length, getD, take, drop}
+use Rattle.laws.specs.Be.{beBytes}
 use Rattle.options.specs.declared.walk.Parsed.{Parsed}
 use Rattle.options.specs.declared.walk.Parsed.the-variants.{Opt, Cut}
 use Rattle.options.specs.declared.proto.Verdict.{Verdict}
 use Rattle.options.specs.declared.proto.Verdict.the-variants.{Ack, Nack, Rej}
+
+-- what a reply may list: so many options, so many data bytes in each, and so many bytes an option with its header
+abbrev pub maxOptions : ℕ
+maxOptions = 6
+
+abbrev pub maxOptionLen : ℕ
+maxOptionLen = 4
+
+abbrev pub maxListed : ℕ
+maxListed = maxOptionLen + 2
+
+-- an own option of four data bytes, and the own options of a request: three such
+abbrev pub fieldSize : ℕ
+fieldSize = 6
+
+abbrev pub maxOwn : ℕ
+maxOwn = 3 * fieldSize
 
 -- code and length, or Cut: no room for both, an option longer than the rest, or one under 2 bytes
 abbrev pub optionOf : List ℕ → Parsed
@@ -42,6 +60,10 @@ walkOf s = walkFrom 0 s
 -- an option as it is laid out
 abbrev pub optBytes : ℕ → List ℕ → List ℕ
 optBytes c d = c ∷ (length d + 2) ∷ d
+
+-- an own option of four data bytes, unless it was dropped
+abbrev pub ownField : Bool → ℕ → ℕ → List ℕ
+ownField dropped c v = cond dropped [] (optBytes c (beBytes 4 v))
 
 -- the value sent back: the request's own, or the suggestion's
 abbrev pub sentBack : Verdict → List ℕ → List ℕ → List ℕ

@@ -1,8 +1,8 @@
 -- The two protocols that negotiate options, by cases.
 use mathlib.Core.Bool.{Bool}
-use mathlib.Core.List.{List}
+use mathlib.Core.List.{List, []}
 use Prim.Native.Nat.{ℕ}
-use Rattle.options.specs.Lcp.{startLcp, judgeLcp, ownLcp, lcpNacked}
+use Rattle.options.specs.Lcp.{startLcp, suggestionLcp, judgeLcp, ownLcp, lcpNacked}
 use Rattle.options.specs.Ipv4cp.{judgeIpv4cp, ownIpv4cp, ipv4cpNacked}
 use Rattle.options.specs.Options.{Walk, done, cut, opt}
 use Rattle.options.specs.declared.proto.Proto.{Proto}
@@ -20,10 +20,15 @@ abbrev pub startOf : Proto → Proto
 startOf (Lcp p) = Lcp (startLcp p)
 startOf (Ipv4cp p) = Ipv4cp p
 
+-- the value that a Nack sends back; IPv4CP never nacks
+abbrev pub suggestionOf : Proto → List ℕ
+suggestionOf (Lcp p) = suggestionLcp p
+suggestionOf (Ipv4cp p) = []
+
 -- the verdict on an option c with the value d, and what the option changes
-abbrev pub judgeOf : Proto → ℕ → List ℕ → List ℕ → Judged
-judgeOf (Lcp p) c d s = record { verdict = judgeLcp p c d s .verdict; proto = Lcp (judgeLcp p c d s .lcp) }
-judgeOf (Ipv4cp p) c d s = record { verdict = judgeIpv4cp p c d .verdict; proto = Ipv4cp (judgeIpv4cp p c d .ipv4cp) }
+abbrev pub judgeOf : Proto → ℕ → List ℕ → Judged
+judgeOf (Lcp p) c d = record { verdict = judgeLcp p c d .verdict; proto = Lcp (judgeLcp p c d .lcp) }
+judgeOf (Ipv4cp p) c d = record { verdict = judgeIpv4cp p c d .verdict; proto = Ipv4cp (judgeIpv4cp p c d .ipv4cp) }
 
 -- the options of an own request
 abbrev pub ownOf : Proto → List ℕ

@@ -1,14 +1,14 @@
 -- The reply to a ConfigureReq (document 01, 'Options'): Rej outranks Nack, Nack outranks Ack; a higher verdict clears the list, a
 -- lower one is not listed; at most 6 options of 4 data bytes.
 use mathlib.Core.Bool.{cond}
-use mathlib.Core.List.{List, [], _∷_, _++_}
+use mathlib.Core.List.{List, [], _++_}
 use Prim.Native.Nat.{ℕ, _+_, _*_, _≤_}
 use lib.Dec.{ltb, leb}
 use lib.ListN.{length}
 use Rattle.options.specs.Refusal.{isDone}
 use Rattle.options.specs.Wire.{pktOf, contentOf, Tidy}
-use Rattle.options.specs.Options.{Walk, done, cut, opt, optBytes, sentBack}
-use Rattle.options.specs.Proto.{judgeOf}
+use Rattle.options.specs.Options.{maxOptions, maxOptionLen, maxListed, Walk, done, cut, opt, optBytes, sentBack}
+use Rattle.options.specs.Proto.{suggestionOf, judgeOf}
 use Rattle.options.specs.declared.refusal.Refusal.{Refusal}
 use Rattle.options.specs.declared.refusal.Refusal.the-variants.{OptionCut, OptionLong, OptionsMany}
 use Rattle.options.specs.declared.refusal.Outcome.the-variants.{Done, Refused}
@@ -17,12 +17,6 @@ use Rattle.options.specs.declared.proto.Verdict.{Verdict}
 use Rattle.options.specs.declared.proto.Verdict.the-variants.{Ack, Nack, Rej}
 use Rattle.options.specs.declared.proto.Judged.{Judged}
 use Rattle.options.specs.declared.walk.Reply.{Reply}
-
-abbrev pub maxOptions : ℕ
-maxOptions = 6
-
-abbrev pub maxOptionLen : ℕ
-maxOptionLen = 4
 
 abbrev pub rankOf : Verdict → ℕ
 rankOf Ack = 0
@@ -54,16 +48,12 @@ listedOf r p v c d =
     (refusedBy r OptionsMany)
     (listing v (r .count + 1) (contentOf (r .packet) ++ optBytes c d) p))))
 
--- what is suggested for option 3 of LCP
-abbrev pub suggestion : List ℕ
-suggestion = 0xC0 ∷ 0x23 ∷ []
-
 abbrev pub stepWith : Reply → Judged → ℕ → List ℕ → Reply
-stepWith r j c d = listedOf r (j .proto) (j .verdict) c (sentBack (j .verdict) d suggestion)
+stepWith r j c d = listedOf r (j .proto) (j .verdict) c (sentBack (j .verdict) d (suggestionOf (r .proto)))
 
--- one option of the request
+-- one option of the request; what is suggested is the record's in hand
 unfoldable pub stepOf : Reply → ℕ → List ℕ → Reply
-stepOf r c d = stepWith r (judgeOf (r .proto) c d suggestion) c d
+stepOf r c d = stepWith r (judgeOf (r .proto) c d) c d
 
 -- all options of the request; the first that is refused ends the walk
 unfoldable pub replyOf : Reply → Walk → Reply
@@ -74,5 +64,5 @@ replyOf r (opt c d w) = cond (isDone (stepOf r c d .outcome)) (replyOf (stepOf r
 -- a reply whose packet has room for what may still be listed
 pub record Ready (r : Reply) : Type 0 where
   pub tidy : Tidy (r .packet)
-  pub most : r .count ≤ 6
-  pub room : r .packet .len ≤ 6 * r .count
+  pub most : r .count ≤ maxOptions
+  pub room : r .packet .len ≤ maxListed * r .count

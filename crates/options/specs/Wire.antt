@@ -9,9 +9,13 @@ use lib.Seq.{sets}
 use Rattle.laws.specs.Be.{beOf, beBytes}
 use Rattle.options.specs.declared.wire.Packet.{Packet}
 
+-- the bytes that a packet has room for
+abbrev pub maxPacket : ℕ
+maxPacket = 128
+
 -- the packet that holds the bytes l, with zeros behind them
 unfoldable pub pktOf : List ℕ → Packet
-pktOf l = record { len = length l; bytes = l ++ replicate (128 - length l) 0 }
+pktOf l = record { len = length l; bytes = l ++ replicate (maxPacket - length l) 0 }
 
 -- the bytes that a packet holds
 abbrev pub contentOf : Packet → List ℕ
@@ -29,7 +33,7 @@ pub record Pushed (p r : Packet) (d : List ℕ) : Type 0 where
 -- the bytes d behind those held; where there is no room for all of them, the packet stays
 unfoldable pub pushedAll : Packet → List ℕ → Packet
 pushedAll p d =
-    cond (leb (p .len + length d) 128)
+    cond (leb (p .len + length d) maxPacket)
     (record { len = p .len + length d; bytes = sets (p .bytes) (p .len) d })
     p
 

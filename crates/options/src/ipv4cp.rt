@@ -1,7 +1,8 @@
 // IPv4CP's options (RFC 1332, and RFC 1877 for the name servers).
 ghost use mathlib.Core.Path.{_≡_};
 ghost use Prim.Native.Nat.{_+_, _≤_};
-ghost use Rattle.options.specs.Wire.{Tidy, Pushed};
+ghost use Rattle.options.specs.Wire.{maxPacket, Tidy, Pushed};
+ghost use Rattle.options.specs.Options.{fieldSize, maxOwn};
 ghost use Rattle.options.specs.Ipv4cp.{freshIp, shown, shownIp, ownIp, ipNacked, freshIpv4cp, judgeIpv4cp, ownIpv4cp, ipv4cpNacked};
 use crate::proto::Verdict;
 use crate::wire::Packet;
@@ -56,14 +57,10 @@ impl IpOption {
 
     // The option behind what the packet holds, unless it was dropped.
     fn push(self, code: u8, b: Packet) -> Packet
-        requires { ⌜ Tidy b × (b .len + 6 ≤ 128) ⌝ }
-        ensures { λ r. ⌜ Pushed b r (ownIp self code) × (r .len ≤ b .len + 6) ⌝ }
+        requires { ⌜ Tidy b × (b .len + fieldSize ≤ maxPacket) ⌝ }
+        ensures { λ r. ⌜ Pushed b r (ownIp self code) × (r .len ≤ b .len + fieldSize) ⌝ }
     {
-        if self.is_rejected {
-            return b;
-        }
-        let head = [code, 6];
-        b.push_all(&head).push4(self.address)
+        b.push_field(self.is_rejected, code, self.address)
     }
 }
 
@@ -126,8 +123,8 @@ impl Ipv4cp {
     }
 
     pub(crate) fn own_options(self, b: Packet) -> Packet
-        requires { ⌜ Tidy b × (b .len + 18 ≤ 128) ⌝ }
-        ensures { λ r. ⌜ Pushed b r (ownIpv4cp self) × (r .len ≤ b .len + 18) ⌝ }
+        requires { ⌜ Tidy b × (b .len + maxOwn ≤ maxPacket) ⌝ }
+        ensures { λ r. ⌜ Pushed b r (ownIpv4cp self) × (r .len ≤ b .len + maxOwn) ⌝ }
     {
         let a = self.address;
         let d = self.dns_server_1;

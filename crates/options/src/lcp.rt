@@ -1,9 +1,12 @@
 // The link control protocol's options (RFC 1661, and RFC 1662 for the map).
 ghost use mathlib.Core.Path.{_≡_};
 ghost use Prim.Native.Nat.{_+_, _≤_};
+ghost use lib.ListN.{length, take};
 ghost use Rattle.laws.specs.Same.{same};
-ghost use Rattle.options.specs.Wire.{Tidy, Pushed};
-ghost use Rattle.options.specs.Lcp.{freshLcp, startLcp, judgeLcp, ownLcp, lcpNacked};
+ghost use Rattle.options.specs.Wire.{maxPacket, Tidy, Pushed};
+ghost use Rattle.options.specs.Options.{fieldSize};
+ghost use Rattle.options.specs.Lcp.{freshLcp, withAuth, startLcp, suggestionLcp, judgeLcp, ownLcp, lcpNacked};
+use crate::proto::Suggested;
 use crate::proto::Verdict;
 use crate::wire::Packet;
 use crate::wire::be;
@@ -57,10 +60,10 @@ impl Lcp {
         }
     }
 
-    pub(crate) fn peer_options_start(self) -> Self
-        ensures { λ r. ⌜ r ≡ startLcp self ⌝ }
+    // An enum's field is not stored to: the record is written anew, and here alone.
+    fn with_auth(self, auth: AuthType) -> Self
+        ensures { λ r. ⌜ r ≡ withAuth self auth ⌝ }
     {
-        let auth = AuthType::None;
         Lcp {
             auth,
             asyncmap_remote: self.asyncmap_remote,
@@ -69,20 +72,42 @@ impl Lcp {
         }
     }
 
-    pub(crate) fn peer_option_received(self, code: u8, d: &[u8], suggested: &[u8]) -> LcpJudged
-        ensures { λ r. ⌜ r ≡ judgeLcp self code (now (d .entry)) (now (suggested .entry)) ⌝ }
+    pub(crate) fn peer_options_start(self) -> Self
+        ensures { λ r. ⌜ r ≡ startLcp self ⌝ }
     {
-        let auth = self.auth;
+        let auth = AuthType::None;
+        self.with_auth(auth)
+    }
+
+    // What is suggested where an authentication protocol is not PAP.
+    pub(crate) fn suggestion(self) -> Suggested
+        ensures { λ r. ⌜ (take (r .len) (r .bytes) ≡ suggestionLcp self) × (r .len ≤ length (r .bytes)) ⌝ }
+    {
+        Suggested {
+            len: 2,
+            bytes: [0xC0, 0x23, 0, 0],
+        }
+    }
+
+    fn is_suggested(self, d: &[u8]) -> bool
+        ensures { λ r. ⌜ r ≡ same (now (d .entry)) (suggestionLcp self) ⌝ }
+    {
+        let s = self.suggestion();
+        let n = s.len;
+        let bytes = s.bytes;
+        same(d, &bytes[..n])
+    }
+
+    pub(crate) fn peer_option_received(self, code: u8, d: &[u8]) -> LcpJudged
+        ensures { λ r. ⌜ r ≡ judgeLcp self code (now (d .entry)) ⌝ }
+    {
         if code == ASYNCMAP {
             if d.len() == 4 {
+                let mut l = self;
+                l.asyncmap_remote = be(d);
                 return LcpJudged {
                     verdict: Verdict::Ack,
-                    lcp: Lcp {
-                        auth,
-                        asyncmap_remote: be(d),
-                        asyncmap: self.asyncmap,
-                        asyncmap_rej: self.asyncmap_rej,
-                    },
+                    lcp: l,
                 };
             }
             return LcpJudged {
@@ -91,15 +116,10 @@ impl Lcp {
             };
         }
         if code == AUTH {
-            if same(d, suggested) {
+            if self.is_suggested(d) {
                 return LcpJudged {
                     verdict: Verdict::Ack,
-                    lcp: Lcp {
-                        auth: AuthType::Pap,
-                        asyncmap_remote: self.asyncmap_remote,
-                        asyncmap: self.asyncmap,
-                        asyncmap_rej: self.asyncmap_rej,
-                    },
+                    lcp: self.with_auth(AuthType::Pap),
                 };
             }
             return LcpJudged {
@@ -114,38 +134,26 @@ impl Lcp {
     }
 
     pub(crate) fn own_options(self, b: Packet) -> Packet
-        requires { ⌜ Tidy b × (b .len + 6 ≤ 128) ⌝ }
-        ensures { λ r. ⌜ Pushed b r (ownLcp self) × (r .len ≤ b .len + 6) ⌝ }
+        requires { ⌜ Tidy b × (b .len + fieldSize ≤ maxPacket) ⌝ }
+        ensures { λ r. ⌜ Pushed b r (ownLcp self) × (r .len ≤ b .len + fieldSize) ⌝ }
     {
-        if self.asyncmap_rej {
-            return b;
-        }
-        let head = [ASYNCMAP, 6];
-        b.push_all(&head).push4(self.asyncmap)
+        b.push_field(self.asyncmap_rej, ASYNCMAP, self.asyncmap)
     }
 
     pub(crate) fn own_option_nacked(self, code: u8, d: &[u8], is_rej: bool) -> Self
         ensures { λ r. ⌜ r ≡ lcpNacked self code (now (d .entry)) «is_rej» ⌝ }
     {
-        let auth = self.auth;
         if code != ASYNCMAP {
             return self;
         }
+        let mut l = self;
         if !is_rej {
             if d.len() == 4 {
-                return Lcp {
-                    auth,
-                    asyncmap_remote: self.asyncmap_remote,
-                    asyncmap: be(d),
-                    asyncmap_rej: self.asyncmap_rej,
-                };
+                l.asyncmap = be(d);
+                return l;
             }
         }
-        Lcp {
-            auth,
-            asyncmap_remote: self.asyncmap_remote,
-            asyncmap: self.asyncmap,
-            asyncmap_rej: true,
-        }
+        l.asyncmap_rej = true;
+        l
     }
 }

@@ -1,15 +1,17 @@
 // The two protocols that negotiate options, as an enum; what each does with an option is in lcp.rt and ipv4cp.rt.
 ghost use mathlib.Core.Path.{_≡_};
 ghost use Prim.Native.Nat.{_≤_};
+ghost use lib.ListN.{length, take};
 ghost use Rattle.options.specs.Wire.{pktOf, Tidy};
-ghost use Rattle.options.specs.Options.{walkOf};
-ghost use Rattle.options.specs.Proto.{protocolOf, startOf, judgeOf, ownOf, ownNacked, nacksOf};
+ghost use Rattle.options.specs.Options.{maxOwn, walkOf};
+ghost use Rattle.options.specs.Proto.{protocolOf, startOf, suggestionOf, judgeOf, ownOf, ownNacked, nacksOf};
 use crate::ipv4cp::Ipv4cp;
 use crate::lcp::Lcp;
 use crate::refusal::Outcome;
 use crate::refusal::Refusal;
 use crate::walk::Parsed;
 use crate::walk::parse_option;
+use crate::wire::MAX_OPTION_LEN;
 use crate::wire::Packet;
 
 pub enum Proto {
@@ -23,9 +25,15 @@ pub enum Verdict {
     Rej,
 }
 
-pub struct Judged {
+pub(crate) struct Judged {
     pub verdict: Verdict,
     pub proto: Proto,
+}
+
+// The value that a Nack sends back: the first `len` bytes.
+pub(crate) struct Suggested {
+    pub len: usize,
+    pub bytes: [u8; MAX_OPTION_LEN],
 }
 
 pub fn protocol(p: Proto) -> u16
@@ -46,12 +54,25 @@ pub fn peer_options_start(p: Proto) -> Proto
     }
 }
 
-pub(crate) fn peer_option_received(p: Proto, code: u8, d: &[u8], suggested: &[u8]) -> Judged
-    ensures { λ r. ⌜ r ≡ judgeOf p code (now (d .entry)) (now (suggested .entry)) ⌝ }
+// IPv4CP never nacks, and suggests nothing.
+pub(crate) fn suggestion(p: Proto) -> Suggested
+    ensures { λ r. ⌜ (take (r .len) (r .bytes) ≡ suggestionOf p) × (r .len ≤ length (r .bytes)) ⌝ }
+{
+    match p {
+        Proto::Lcp(l) => l.suggestion(),
+        Proto::Ipv4cp(_) => Suggested {
+            len: 0,
+            bytes: [0; MAX_OPTION_LEN],
+        },
+    }
+}
+
+pub(crate) fn peer_option_received(p: Proto, code: u8, d: &[u8]) -> Judged
+    ensures { λ r. ⌜ r ≡ judgeOf p code (now (d .entry)) ⌝ }
 {
     match p {
         Proto::Lcp(l) => {
-            let j = l.peer_option_received(code, d, suggested);
+            let j = l.peer_option_received(code, d);
             let v = j.verdict;
             let q = j.lcp;
             Judged {
@@ -73,7 +94,7 @@ pub(crate) fn peer_option_received(p: Proto, code: u8, d: &[u8], suggested: &[u8
 
 // The own options, as they stand in a request.
 pub fn own_options(p: Proto) -> Packet
-    ensures { λ r. ⌜ (r ≡ pktOf (ownOf p)) × Tidy r × (r .len ≤ 18) ⌝ }
+    ensures { λ r. ⌜ (r ≡ pktOf (ownOf p)) × Tidy r × (r .len ≤ maxOwn) ⌝ }
 {
     match p {
         Proto::Lcp(l) => l.own_options(Packet::blank()),

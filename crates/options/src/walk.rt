@@ -2,21 +2,19 @@
 ghost use mathlib.Core.Path.{_≡_};
 ghost use Prim.Native.Nat.{_+_, _≤_};
 ghost use lib.ListN.{length};
-ghost use Rattle.options.specs.Wire.{Tidy, Pushed};
+ghost use Rattle.options.specs.Wire.{maxPacket, Tidy, Pushed};
 ghost use Rattle.options.specs.Refusal.{isDone};
-ghost use Rattle.options.specs.Options.{optionOf, optBytes, sentBack, walkOf};
+ghost use Rattle.options.specs.Options.{maxOptionLen, maxListed, optionOf, optBytes, sentBack, walkOf};
 ghost use Rattle.options.specs.Reply.{rankOf, freshReply, refusedBy, withProto, listedOf, stepOf, replyOf, Ready};
 use crate::proto::Proto;
 use crate::proto::Verdict;
 use crate::proto::peer_option_received;
+use crate::proto::suggestion;
 use crate::refusal::Outcome;
 use crate::refusal::Refusal;
 use crate::wire::MAX_OPTION_LEN;
 use crate::wire::MAX_OPTIONS;
 use crate::wire::Packet;
-
-// What LCP suggests where an authentication protocol is not PAP.
-const SUGGESTED: [u8; 2] = [0xC0, 0x23];
 
 pub enum Parsed {
     Opt { code: u8, len: usize },
@@ -123,7 +121,7 @@ fn with_proto(r: Reply, q: Proto) -> Reply
 
 // An option behind what the packet holds.
 fn push_option(p: Packet, code: u8, d: &[u8]) -> Packet
-    requires { ⌜ Tidy p × (p .len + 6 ≤ 128) × (length (now d) ≤ 4) ⌝ }
+    requires { ⌜ Tidy p × (p .len + maxListed ≤ maxPacket) × (length (now d) ≤ maxOptionLen) ⌝ }
     ensures { λ r. ⌜ Pushed p r (optBytes code (now (d .entry))) ⌝ }
 {
     let head = [code, (d.len() + 2) as u8];
@@ -175,11 +173,13 @@ fn answer_option(r: Reply, code: u8, d: &[u8]) -> Reply
     ensures { λ s. ⌜ (s ≡ stepOf r code (now (d .entry))) × Ready s ⌝ }
 {
     let q = r.proto;
-    let suggested = SUGGESTED;
-    let j = peer_option_received(q, code, d, &suggested);
+    let s = suggestion(q);
+    let n = s.len;
+    let bytes = s.bytes;
+    let j = peer_option_received(q, code, d);
     let v = j.verdict;
     let p = j.proto;
-    list(r, p, v, code, sent_back(v, d, &suggested))
+    list(r, p, v, code, sent_back(v, d, &bytes[..n]))
 }
 
 // The reply to the options `s` of a request.

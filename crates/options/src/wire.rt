@@ -3,12 +3,20 @@ ghost use mathlib.Core.Path.{_≡_};
 ghost use mathlib.Core.List.{[]};
 ghost use Prim.Native.Nat.{_+_, _≤_, _<_};
 ghost use lib.ListN.{length};
-ghost use Rattle.laws.specs.Be.{beOf, beBytes};
-ghost use Rattle.options.specs.Wire.{pktOf, Tidy, protocolIn, lengthField, Pushed, pushedAll};
+ghost use Rattle.laws.specs.Be.{beOf};
+ghost use Rattle.options.specs.Wire.{maxPacket, pktOf, Tidy, protocolIn, lengthField, Pushed, pushedAll};
+ghost use Rattle.options.specs.Options.{fieldSize, ownField};
 
+// The bytes that a packet has room for.
+pub const MAX_PACKET: usize = 128;
+
+// What a reply may list: so many options, and so many data bytes in each.
 pub(crate) const MAX_OPTIONS: usize = 6;
 
 pub(crate) const MAX_OPTION_LEN: usize = 4;
+
+// An own option of four data bytes, with its header.
+const FIELD_SIZE: u8 = 6;
 
 // ProtocolType
 pub const LCP: u16 = 0xC021;
@@ -82,7 +90,7 @@ pub fn length_in(pkt: &[u8]) -> u32
 
 pub struct Packet {
     pub len: usize,
-    pub bytes: [u8; 128],
+    pub bytes: [u8; MAX_PACKET],
 }
 
 impl Packet {
@@ -91,7 +99,7 @@ impl Packet {
     {
         Packet {
             len: 0,
-            bytes: [0; 128],
+            bytes: [0; MAX_PACKET],
         }
     }
 
@@ -100,10 +108,10 @@ impl Packet {
         ensures { λ r. ⌜ r ≡ pushedAll self (now (d .entry)) ⌝ }
     {
         let n = self.len;
-        if 128 < n {
+        if MAX_PACKET < n {
             return self;
         }
-        if 128 - n < d.len() {
+        if MAX_PACKET - n < d.len() {
             return self;
         }
         let mut p = self;
@@ -117,11 +125,17 @@ impl Packet {
         p
     }
 
-    pub(crate) fn push4(self, v: u32) -> Self
-        requires { ⌜ Tidy self × (self .len + 4 ≤ 128) ⌝ }
-        ensures { λ r. ⌜ Pushed self r (beBytes 4 v) ⌝ }
+    // An own option of four data bytes behind what the packet holds, unless it was dropped.
+    pub(crate) fn push_field(self, is_dropped: bool, code: u8, v: u32) -> Self
+        requires { ⌜ Tidy self × (self .len + fieldSize ≤ maxPacket) ⌝ }
+        ensures { λ r. ⌜ Pushed self r (ownField «is_dropped» code v) × (r .len ≤ self .len + fieldSize) ⌝ }
     {
+        if is_dropped {
+            return self;
+        }
         let d = [
+            code,
+            FIELD_SIZE,
             (v / 16777216 % 256) as u8,
             (v / 65536 % 256) as u8,
             (v / 256 % 256) as u8,

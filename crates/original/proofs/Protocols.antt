@@ -12,7 +12,6 @@ use Rattle.laws.specs.Be.{beBytes}
 use Rattle.laws.specs.Same.{same}
 use Rattle.laws.proofs.Be.{length-be}
 use Rattle.laws.proofs.Cases.{by-test, cond-all}
-use Rattle.options.specs.Reply.{suggestion}
 use Rattle.options.specs.Lcp as ours
 use Rattle.options.specs.Ipv4cp as ours4
 use Rattle.options.specs.Proto.{ownNacked}
@@ -43,12 +42,13 @@ own-lcp p =
     (λ t. rw t (record { opts = record { code = 2; value = beBytes 4 (p .asyncmap) } ∷ []; pushed = rw (length-be 4 (p .asyncmap)) refl; lists = one-more 2 (p .asyncmap) (lit< tt) lists-none }))
 
 lcp-theirs : (p : lcp.Lcp) (c : ℕ) (d : List ℕ)
-    → lcpReceived (viewLcp p) c d ≡ (viewVerdict (ours.judgeLcp p c d suggestion .verdict), viewLcp (ours.judgeLcp p c d suggestion .lcp))
+    → lcpReceived (viewLcp p) c d ≡ (viewVerdict (ours.suggestionLcp p) (ours.judgeLcp p c d .verdict), viewLcp (ours.judgeLcp p c d .lcp))
+unfolding ours.suggestionLcp
 lcp-theirs p c d =
     by-test (eqb c 2)
     (λ t. rw t (by-test (eqb (length d) 4) (λ u. rw u refl) (λ u. rw u refl)))
     (λ t. rw t (by-test (eqb c 3)
-    (λ u. rw u (by-test (same d suggestion) (λ v. rw v refl) (λ v. rw v refl)))
+    (λ u. rw u (by-test (same d (ours.suggestionLcp p)) (λ v. rw v refl) (λ v. rw v refl)))
     (λ u. rw u refl)))
 
 pub lcp-stands : Stands lcpProtocol proto.the-variants.Lcp viewLcp
@@ -60,8 +60,8 @@ lcp-stands =
       started = ours.startLcp;
       start-ours = λ x. refl;
       start-theirs = λ x. refl;
-      verdict = λ x c d. ours.judgeLcp x c d suggestion .verdict;
-      judged = λ x c d. ours.judgeLcp x c d suggestion .lcp;
+      verdict = λ x c d. ours.judgeLcp x c d .verdict;
+      judged = λ x c d. ours.judgeLcp x c d .lcp;
       judge-ours = λ x c d. refl;
       judge-theirs = lcp-theirs;
       nacked = ours.lcpNacked;
@@ -114,7 +114,7 @@ ip-theirs o d true = refl
 ip-theirs o d false = by-test (eqb (length d) 4) (λ t. rw t refl) (λ t. rw t refl)
 
 ipv4cp-theirs : (p : ipv4cp.Ipv4cp) (c : ℕ) (d : List ℕ)
-    → ipv4cpReceived (viewIpv4cp p) c d ≡ (viewVerdict (ours4.judgeIpv4cp p c d .verdict), viewIpv4cp (ours4.judgeIpv4cp p c d .ipv4cp))
+    → ipv4cpReceived (viewIpv4cp p) c d ≡ (viewVerdict [] (ours4.judgeIpv4cp p c d .verdict), viewIpv4cp (ours4.judgeIpv4cp p c d .ipv4cp))
 ipv4cp-theirs p c d =
     by-test (eqb c 3) (λ t. rw t (by-test (eqb (length d) 4) (λ u. rw u refl) (λ u. rw u refl))) (λ t. rw t refl)
 

@@ -6,15 +6,15 @@ use mathlib.Core.List.{List, [], _∷_, _++_}
 use Prim.Native.Nat.{ℕ, _+_, _*_, _≤_, _<_}
 use native.Mathlib.Omega.{arith}
 use borrow.Author.Tests.{lt-ltb, le-ltb, le-leb, lt-leb, eq-eqb, ne-eqb}
-use lib.Dec.{lit≤, lit<}
+use lib.Dec.{lit≤}
 use lib.ListN.{length, length-append}
 use Rattle.laws.specs.Each.{Bytes}
 use Rattle.laws.proofs.Cases.{by-le}
 use Rattle.options.specs.Refusal.{isDone}
 use Rattle.options.specs.Wire.{pktOf, contentOf}
 use Rattle.options.specs.Options.{Walk, done, cut, opt, optBytes, sentBack}
-use Rattle.options.specs.Proto.{protocolOf, startOf, judgeOf, ownOf, ownNacked, nacksOf}
-use Rattle.options.specs.Reply.{rankOf, suggestion, listedOf, stepOf, replyOf}
+use Rattle.options.specs.Proto.{protocolOf, startOf, judgeOf, ownOf, ownNacked, nacksOf, suggestionOf}
+use Rattle.options.specs.Reply.{rankOf, listedOf, stepOf, replyOf}
 use Rattle.negotiation.specs.Messages.{codeOf}
 use Rattle.options.specs.declared.refusal.Refusal.the-variants.{OptionCut, OptionLong, OptionsMany}
 use Rattle.options.specs.declared.refusal.Outcome.the-variants.{Done}
@@ -22,6 +22,7 @@ use Rattle.options.specs.declared.proto.Proto.{Proto}
 use Rattle.options.specs.declared.proto.Verdict as verdict
 use Rattle.options.specs.declared.proto.Nacked.{Nacked}
 use Rattle.options.specs.declared.walk.Reply.{Reply}
+use Rattle.options.proofs.Suggesting.{suggestion-bytes}
 use Rattle.options.proofs.Wires.{content-pkt}
 use Rattle.options.proofs.Replying.{listed-lower, listed-long, listed-higher, listed-many, listed-more}
 use Rattle.original.specs.Run.{Place, Run, returns, panics, _>>=_, unwrap, optionsCut}
@@ -34,10 +35,11 @@ use Rattle.original.proofs.Packets.{Lists, lists-none, lists-more}
 
 -- ---- a protocol of the original that stands for one of ours
 
-abbrev pub viewVerdict : verdict.Verdict → Verdict
-viewVerdict verdict.the-variants.Ack = Ack
-viewVerdict verdict.the-variants.Nack = Nack suggestion
-viewVerdict verdict.the-variants.Rej = Rej
+-- a verdict where s is suggested
+abbrev pub viewVerdict : List ℕ → verdict.Verdict → Verdict
+viewVerdict s verdict.the-variants.Ack = Ack
+viewVerdict s verdict.the-variants.Nack = Nack s
+viewVerdict s verdict.the-variants.Rej = Rej
 
 -- an own request's options
 pub record Own {P : Type 0} (T : Protocol P) (p : P) (l : List ℕ) : Type 0 where
@@ -54,8 +56,8 @@ pub record Stands {X P : Type 0} (T : Protocol P) (inj : X → Proto) (view : X 
   pub start-theirs : (x : X) → T .peerOptionsStart (view x) ≡ view (started x)
   pub verdict : X → ℕ → List ℕ → verdict.Verdict
   pub judged : X → ℕ → List ℕ → X
-  pub judge-ours : (x : X) (c : ℕ) (d : List ℕ) → judgeOf (inj x) c d suggestion ≡ record { verdict = verdict x c d; proto = inj (judged x c d) }
-  pub judge-theirs : (x : X) (c : ℕ) (d : List ℕ) → T .peerOptionReceived (view x) c d ≡ (viewVerdict (verdict x c d), view (judged x c d))
+  pub judge-ours : (x : X) (c : ℕ) (d : List ℕ) → judgeOf (inj x) c d ≡ record { verdict = verdict x c d; proto = inj (judged x c d) }
+  pub judge-theirs : (x : X) (c : ℕ) (d : List ℕ) → T .peerOptionReceived (view x) c d ≡ (viewVerdict (suggestionOf (inj x)) (verdict x c d), view (judged x c d))
   pub nacked : X → ℕ → List ℕ → Bool → X
   pub nack-ours : (x : X) (c : ℕ) (d : List ℕ) (rej : Bool) → ownNacked (inj x) c d rej ≡ inj (nacked x c d rej)
   pub nack-theirs : (x : X) (c : ℕ) (d : List ℕ) (rej : Bool) → T .ownOptionNacked (view x) c d rej ≡ view (nacked x c d rej)
@@ -85,15 +87,15 @@ module _ {X P : Type 0} (T : Protocol P) (inj : X → Proto) (view : X → P) (s
     on : {a : Answer P} {r : Reply} → SameReply a r → SameAnswer (returns a) r
     off : {p : Place} {r : Reply} → RefusedAt p (r .outcome) → SameAnswer (panics p) r
 
-  theirs-ret : (v : verdict.Verdict) (d : List ℕ) → retOf T (viewVerdict v) d ≡ (rankOf v + 2, sentBack v d suggestion)
-  theirs-ret verdict.the-variants.Ack d = refl
-  theirs-ret verdict.the-variants.Nack d = refl
-  theirs-ret verdict.the-variants.Rej d = refl
+  theirs-ret : (s : List ℕ) (v : verdict.Verdict) (d : List ℕ) → retOf T (viewVerdict s v) d ≡ (rankOf v + 2, sentBack v d s)
+  theirs-ret s verdict.the-variants.Ack d = refl
+  theirs-ret s verdict.the-variants.Nack d = refl
+  theirs-ret s verdict.the-variants.Rej d = refl
 
-  back-bytes : (v : verdict.Verdict) (d : List ℕ) → Bytes d → Bytes (sentBack v d suggestion)
-  back-bytes verdict.the-variants.Ack d h = h
-  back-bytes verdict.the-variants.Nack d h = (lit< tt, (lit< tt, tt))
-  back-bytes verdict.the-variants.Rej d h = h
+  back-bytes : (s : List ℕ) (v : verdict.Verdict) (d : List ℕ) → Bytes s → Bytes d → Bytes (sentBack v d s)
+  back-bytes s verdict.the-variants.Ack d k h = h
+  back-bytes s verdict.the-variants.Nack d k h = k
+  back-bytes s verdict.the-variants.Rej d k h = h
 
   -- the protocol behind an option, and what was listed before
   abbrev kept : Answer P → X → Answer P
@@ -151,9 +153,10 @@ module _ {X P : Type 0} (T : Protocol P) (inj : X → Proto) (view : X → P) (s
       let x = same .x in
       let v = stands .verdict x c d in
       let theirs = ap (λ (p : P). T .peerOptionReceived p c d) (same .proto) ∙ stands .judge-theirs x c d in
-      let here = ap (λ (p : Proto). judgeOf p c d suggestion) (same .case) ∙ stands .judge-ours x c d in
-      rw (theirs, here, theirs-ret v d)
-      (listed-same a r same (stands .judged x c d) v c (sentBack v d suggestion) small (back-bytes v d bytes))
+      let s = suggestionOf (inj x) in
+      let here = ap (λ (p : Proto). judgeOf p c d) (same .case) ∙ stands .judge-ours x c d in
+      rw (theirs, here, ap suggestionOf (same .case), theirs-ret s v d)
+      (listed-same a r same (stands .judged x c d) v c (sentBack v d s) small (back-bytes s v d (suggestion-bytes (inj x)) bytes))
 
   pub reply-same : (a : Answer P) (r : Reply) (w : Walk) → SameReply a r → ByteWalk w → SameAnswer (over (peerOption T) a w >>= unwrap optionsCut) (replyOf r w)
   unfolding replyOf

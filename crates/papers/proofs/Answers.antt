@@ -17,8 +17,9 @@ use Rattle.papers.specs.Rfc1661.{Option, Options, none}
 use Rattle.options.specs.Refusal.{isDone}
 use Rattle.options.specs.Wire.{contentOf}
 use Rattle.options.specs.Options.{optBytes, sentBack, Walk, done, cut, opt, walkOf}
-use Rattle.options.specs.Proto.{judgeOf, ownNacked, nacksOf}
-use Rattle.options.specs.Reply.{rankOf, freshReply, suggestion, listedOf, stepOf, replyOf}
+use Rattle.options.specs.Proto.{suggestionOf, judgeOf, ownNacked, nacksOf}
+use Rattle.options.specs.Reply.{rankOf, freshReply, listedOf, stepOf, replyOf}
+use Rattle.options.proofs.Suggesting.{judge-suggestion}
 use Rattle.options.proofs.Wires.{content-pkt}
 use Rattle.papers.proofs.Layouts1661.{laid-one, laid-both, bytesOf, options-bytes}
 use Rattle.papers.proofs.Walked.{walkOptions, walk-options, isWhole, Typed, options-typed}
@@ -58,17 +59,17 @@ joined-behind : (t : Bool) (ls : List Option) (a : Option) (l : List Option)
 joined-behind true ls a l = append-assoc ls (a ∷ []) l
 joined-behind false ls a l = refl
 
--- a reply r to the options os, with a verdict v and a list ls before them
-record Answered (f : ℕ → List ℕ → Verdict) (v : Verdict) (ls os : List Option) (r : Reply) : Type 0 where
+-- a reply r to the options os, with a verdict v and a list ls before them; u is suggested
+record Answered (f : ℕ → List ℕ → Verdict) (u : List ℕ) (v : Verdict) (ls os : List Option) (r : Reply) : Type 0 where
   up : rankOf v ≤ rankOf (r .verdict)
   top : Top f (r .verdict) os
-  laid : Options (contentOf (r .packet)) (cond (eqb (rankOf v) (rankOf (r .verdict))) ls [] ++ answers f (r .verdict) os)
+  laid : Options (contentOf (r .packet)) (cond (eqb (rankOf v) (rankOf (r .verdict))) ls [] ++ answers f u (r .verdict) os)
 
-module _ (f : ℕ → List ℕ → Verdict) (o : Option) (os : List Option) (r s z : Reply) (p : Proto) (ls : List Option) (c : o .type < 256) where
-  extend : Stepped r s p (f (o .type) (o .value)) (o .type) (answerTo f o .value) → isDone (s .outcome) ≡ true
+module _ (f : ℕ → List ℕ → Verdict) (u : List ℕ) (o : Option) (os : List Option) (r s z : Reply) (p : Proto) (ls : List Option) (c : o .type < 256) where
+  extend : Stepped r s p (f (o .type) (o .value)) (o .type) (answerTo f u o .value) → isDone (s .outcome) ≡ true
       → Options (contentOf (r .packet)) ls
-      → ((ms : List Option) → s .proto ≡ p → Options (contentOf (s .packet)) ms → Answered f (s .verdict) ms os z)
-      → Answered f (r .verdict) ls (o ∷ os) z
+      → ((ms : List Option) → s .proto ≡ p → Options (contentOf (s .packet)) ms → Answered f u (s .verdict) ms os z)
+      → Answered f u (r .verdict) ls (o ∷ os) z
   extend (refused e) d l ih = absurd (true≢false (sym d ∙ e))
   extend (lower q h e i) d l ih =
       let a = ih ls q (rw i l) in
@@ -80,7 +81,7 @@ module _ (f : ℕ → List ℕ → Verdict) (o : Option) (os : List Option) (r s
         laid = rw (ne-eqb _ _ n, ← k) (a .laid);
       }
   extend (alone q m h e i) d l ih =
-      let a = ih (answerTo f o ∷ []) q (rw i (laid-one _ _ c (omega arith))) in
+      let a = ih (answerTo f u o ∷ []) q (rw i (laid-one _ _ c (omega arith))) in
       let k : rankOf (s .verdict) ≡ rankOf (f (o .type) (o .value)) = ap rankOf e in
       let n : rankOf (r .verdict) ≡ rankOf (z .verdict) → ⊥ = λ y. omega (arith, a .up) in
       record {
@@ -89,7 +90,7 @@ module _ (f : ℕ → List ℕ → Verdict) (o : Option) (os : List Option) (r s
         laid = rw (ne-eqb _ _ n, ← joined-alone, ← k) (a .laid);
       }
   extend (another q m h e i) d l ih =
-      let a = ih (ls ++ (answerTo f o ∷ [])) q (rw i (laid-both l (laid-one _ _ c (omega arith)))) in
+      let a = ih (ls ++ (answerTo f u o ∷ [])) q (rw i (laid-both l (laid-one _ _ c (omega arith)))) in
       let k : rankOf (s .verdict) ≡ rankOf (f (o .type) (o .value)) = ap rankOf e in
       record {
         up = omega (arith, a .up);
@@ -98,23 +99,25 @@ module _ (f : ℕ → List ℕ → Verdict) (o : Option) (os : List Option) (r s
       }
 
 step-stepped : (r : Reply) (c : ℕ) (d : List ℕ)
-    → Stepped r (stepOf r c d) (judgeOf (r .proto) c d suggestion .proto) (verdictOf (r .proto) c d) c
-    (sentBack (verdictOf (r .proto) c d) d suggestion)
+    → Stepped r (stepOf r c d) (judgeOf (r .proto) c d .proto) (verdictOf (r .proto) c d) c
+    (sentBack (verdictOf (r .proto) c d) d (suggestionOf (r .proto)))
 unfolding stepOf
 step-stepped r c d = rw (← judged-verdict (r .proto) c d) (stepped r _ _ c _)
 
 reply-answered : (os : List Option) (r : Reply) (ls : List Option) → Typed os → Options (contentOf (r .packet)) ls
     → isDone (replyOf r (walkOptions os) .outcome) ≡ true
-    → Answered (verdictOf (r .proto)) (r .verdict) ls os (replyOf r (walkOptions os))
+    → Answered (verdictOf (r .proto)) (suggestionOf (r .proto)) (r .verdict) ls os (replyOf r (walkOptions os))
 unfolding replyOf
 reply-answered [] r ls y l d = record { up = omega arith; top = tt; laid = rw (eq-eqb _ _ refl, append-nil) l }
 reply-answered (o ∷ os) r ls y l d =
     let s = stepOf r (o .type) (o .value) in
     let z = replyOf s (walkOptions os) in
     by-test (isDone (s .outcome))
-    (λ t. rw t (extend _ o os r s z _ ls (y .0) (step-stepped r (o .type) (o .value)) t l
-    (λ ms e m. subst (λ (f : ℕ → List ℕ → Verdict). Answered f (s .verdict) ms os z)
-    (ap verdictOf e ∙ judged-proto (r .proto) (o .type) (o .value)) (reply-answered os s ms (y .1) m (rw t at d)))))
+    (λ t. rw t (extend _ _ o os r s z _ ls (y .0) (step-stepped r (o .type) (o .value)) t l
+    (λ ms e m. subst (λ (f : ℕ → List ℕ → Verdict). Answered f (suggestionOf (r .proto)) (s .verdict) ms os z)
+    (ap verdictOf e ∙ judged-proto (r .proto) (o .type) (o .value))
+    (subst (λ (u : List ℕ). Answered (verdictOf (s .proto)) u (s .verdict) ms os z) (ap suggestionOf e ∙ judge-suggestion (r .proto) (o .type) (o .value))
+    (reply-answered os s ms (y .1) m (rw t at d))))))
     (λ t. absurd (true≢false (sym (rw t at d) ∙ t)))
 
 -- what the options change of the protocol, where none is refused
@@ -145,7 +148,7 @@ abbrev pub replyTo : Proto → List ℕ → Reply
 replyTo p s = replyOf (freshReply p) (walkOf s)
 
 module _ (p : Proto) {s : List ℕ} {os : List Option} (l : Options s os) (d : isDone (replyTo p s .outcome) ≡ true) where
-  from-fresh : Answered (verdictOf p) Ack [] os (replyTo p s)
+  from-fresh : Answered (verdictOf p) (suggestionOf p) Ack [] os (replyTo p s)
   from-fresh =
       let e = walk-options 0 l in
       rw e (reply-answered os (freshReply p) [] (options-typed l) (rw content-pkt none) (rw e at d))
@@ -154,7 +157,7 @@ module _ (p : Proto) {s : List ℕ} {os : List Option} (l : Options s os) (d : i
   pub reply-top : Top (verdictOf p) (replyTo p s .verdict) os
   reply-top = from-fresh .top
 
-  pub reply-options : Options (contentOf (replyTo p s .packet)) (answers (verdictOf p) (replyTo p s .verdict) os)
+  pub reply-options : Options (contentOf (replyTo p s .packet)) (answers (verdictOf p) (suggestionOf p) (replyTo p s .verdict) os)
   reply-options = rw no-list at (from-fresh .laid)
 
   pub reply-proto : replyTo p s .proto ≡ judgedAll p os
@@ -163,7 +166,7 @@ module _ (p : Proto) {s : List ℕ} {os : List Option} (l : Options s os) (d : i
   -- an Ack holds the bytes of the request
   pub reply-ack : replyTo p s .verdict ≡ Ack → contentOf (replyTo p s .packet) ≡ s
   reply-ack e =
-      let a : answers (verdictOf p) (replyTo p s .verdict) os ≡ os = rw e (acked-all (verdictOf p) os (rw e at reply-top)) in
+      let a : answers (verdictOf p) (suggestionOf p) (replyTo p s .verdict) os ≡ os = rw e (acked-all (verdictOf p) (suggestionOf p) os (rw e at reply-top)) in
       options-bytes reply-options ∙ ap bytesOf a ∙ sym (options-bytes l)
 
 -- ---- a walk that is cut ends in a refusal

@@ -21,10 +21,9 @@ use Rattle.options.specs.declared.lcp.LcpJudged.{LcpJudged}
 use Rattle.options.specs.declared.proto.Proto.{Proto}
 use Rattle.options.specs.declared.proto.Proto.the-variants.{Lcp as OfLcp, Ipv4cp as OfIpv4cp}
 use Rattle.papers.specs.Rfc1661.{Option, Options, none, more}
-use Rattle.options.specs.Lcp.{freshLcp}
+use Rattle.options.specs.Lcp.{freshLcp, suggestionLcp}
 use Rattle.options.specs.Ipv4cp.{freshIpv4cp, ipNacked}
 use Rattle.options.specs.Proto.{startOf, judgeOf, ownNacked}
-use Rattle.options.specs.Reply.{suggestion}
 use Rattle.papers.proofs.Verdicts.{judgedAll}
 use Rattle.papers.proofs.Sending.{Fits}
 use Rattle.papers.proofs.Judging.{takenUp}
@@ -65,16 +64,16 @@ fits-taken rej p (o ∷ os) b h = fits-taken rej (ownNacked p (o .type) (o .valu
 
 -- ---- as a request leaves them
 
-fits-one : (p : Proto) (c : ℕ) (d : List ℕ) → Fits p → Fits (judgeOf p c d suggestion .proto)
+fits-one : (p : Proto) (c : ℕ) (d : List ℕ) → Fits p → Fits (judgeOf p c d .proto)
 fits-one (OfLcp p) c d h =
     let P : LcpJudged → Type 0 = λ j. j .lcp .asyncmap < 0x100000000 in
-    cond-all P (eqb c 2) (cond-all P (eqb (length d) 4) h h) (cond-all P (eqb c 3) (cond-all P (same d suggestion) h h) h)
+    cond-all P (eqb c 2) (cond-all P (eqb (length d) 4) h h) (cond-all P (eqb c 3) (cond-all P (same d (suggestionLcp p)) h h) h)
 fits-one (OfIpv4cp p) c d h =
     cond-all (λ (j : Ipv4cpJudged). Fits (OfIpv4cp (j .ipv4cp))) (eqb c 3 && eqb (length d) 4) h h
 
 fits-judged : (p : Proto) (os : List Option) → Fits p → Fits (judgedAll p os)
 fits-judged p [] h = h
-fits-judged p (o ∷ os) h = fits-judged (judgeOf p (o .type) (o .value) suggestion .proto) os (fits-one p (o .type) (o .value) h)
+fits-judged p (o ∷ os) h = fits-judged (judgeOf p (o .type) (o .value) .proto) os (fits-one p (o .type) (o .value) h)
 
 fits-start : (p : Proto) → Fits p → Fits (startOf p)
 fits-start (OfLcp p) h = h

@@ -62,8 +62,8 @@ module _ {o : Option} {m : ℕ} (x : AsyncMap o m) where
       ap (λ (y : ℕ). y / 2 ^ r % 2) (octet (b / 8) (omega arith)) ∙ e ∙ rw (shr-shr m (8 * (b / 8)) r, k) refl
 
   -- as the peer offers it: acked, and its number is the one stored
-  pub judge-map : (p : Lcp) (s : List ℕ) → judgeLcp p (o .type) (o .value) s ≡ judgedLcp Ack (withRemote p m)
-  judge-map p s = rw (map-length, map-number, x .type) refl
+  pub judge-map : (p : Lcp) → judgeLcp p (o .type) (o .value) ≡ judgedLcp Ack (withRemote p m)
+  judge-map p = rw (map-length, map-number, x .type) refl
 
   -- as a Reject drops it, or as a Nak suggests another
   pub take-map : (rej : Bool) (p : Lcp) → ownNacked (OfLcp p) (o .type) (o .value) rej ≡ OfLcp (takenMap rej p m)

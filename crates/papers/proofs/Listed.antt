@@ -11,25 +11,28 @@ use lib.Dec.{eqb}
 use lib.ListN.{length}
 use Rattle.laws.specs.Each.{Each}
 use Rattle.laws.proofs.Cases.{cond-by, cond-all}
+use Rattle.options.specs.declared.lcp.Lcp.{Lcp}
 use Rattle.options.specs.declared.proto.Verdict.{Verdict}
 use Rattle.options.specs.declared.proto.Verdict.the-variants.{Ack, Nack, Rej}
 use Rattle.papers.specs.Rfc1661.{Option}
 use Rattle.papers.specs.Rfc1334.{PapOption}
+use Rattle.options.specs.Lcp.{suggestionLcp}
 use Rattle.options.specs.Options.{sentBack}
-use Rattle.options.specs.Reply.{rankOf, suggestion}
+use Rattle.options.specs.Reply.{rankOf}
 use Rattle.papers.proofs.Layouts1661.{optionAs}
 use Rattle.papers.proofs.Verdicts.{lcpVerdict}
 
--- ---- the options that a reply of verdict v holds
+-- ---- the options that a reply of verdict v holds, where s is suggested
 
 module _ (f : ℕ → List ℕ → Verdict) where
-  -- an option as it is sent back
-  abbrev pub answerTo : Option → Option
-  answerTo o = optionAs (o .type) (sentBack (f (o .type) (o .value)) (o .value) suggestion)
+  module _ (s : List ℕ) where
+    -- an option as it is sent back
+    abbrev pub answerTo : Option → Option
+    answerTo o = optionAs (o .type) (sentBack (f (o .type) (o .value)) (o .value) s)
 
-  abbrev pub answers : Verdict → List Option → List Option
-  answers v [] = []
-  answers v (o ∷ os) = cond (eqb (rankOf (f (o .type) (o .value))) (rankOf v)) (answerTo o ∷ answers v os) (answers v os)
+    abbrev pub answers : Verdict → List Option → List Option
+    answers v [] = []
+    answers v (o ∷ os) = cond (eqb (rankOf (f (o .type) (o .value))) (rankOf v)) (answerTo o ∷ answers v os) (answers v os)
 
   -- no option has a higher verdict
   abbrev pub Top : Verdict → List Option → Type 0
@@ -38,27 +41,29 @@ module _ (f : ℕ → List ℕ → Verdict) where
 
 -- ---- what a Nak of LCP suggests
 
-nacked-type : (c : ℕ) (d : List ℕ) → rankOf (lcpVerdict c d) ≡ rankOf Nack → c ≡ 3
-nacked-type c d =
+nacked-type : (s : List ℕ) (c : ℕ) (d : List ℕ) → rankOf (lcpVerdict s c d) ≡ rankOf Nack → c ≡ 3
+nacked-type s c d =
     let P : Verdict → Type 0 = λ v. rankOf v ≡ rankOf Nack → c ≡ 3 in
     cond-by P (eqb c 2) (λ _. cond-all P (eqb (length d) 4) (λ n. absurd (omega arith)) (λ n. absurd (omega arith)))
     (λ _. cond-by P (eqb c 3) (λ h _. eqb-true c 3 h) (λ _ n. absurd (omega arith)))
 
-nacked-value : (v : Verdict) (d : List ℕ) → rankOf v ≡ rankOf Nack → sentBack v d suggestion ≡ suggestion
-nacked-value Ack d e = absurd (omega arith)
-nacked-value Nack d e = refl
-nacked-value Rej d e = absurd (omega arith)
+nacked-value : (v : Verdict) (d s : List ℕ) → rankOf v ≡ rankOf Nack → sentBack v d s ≡ s
+nacked-value Ack d s e = absurd (omega arith)
+nacked-value Nack d s e = refl
+nacked-value Rej d s e = absurd (omega arith)
 
 -- only an Authentication-Protocol is nacked, and each option of the list asks for PAP
-pub nak-suggests : (os : List Option) → Each PapOption (answers lcpVerdict Nack os)
-nak-suggests [] = tt
-nak-suggests (o ∷ os) =
-    let v = lcpVerdict (o .type) (o .value) in
+pub nak-suggests : (p : Lcp) (os : List Option) → Each PapOption (answers (lcpVerdict (suggestionLcp p)) (suggestionLcp p) Nack os)
+unfolding suggestionLcp
+nak-suggests p [] = tt
+nak-suggests p (o ∷ os) =
+    let s = suggestionLcp p in
+    let v = lcpVerdict s (o .type) (o .value) in
     cond-by (Each PapOption) (eqb (rankOf v) (rankOf Nack))
     (λ t.
     let e = eqb-true (rankOf v) (rankOf Nack) t in
-    (record { small = omega arith; type = nacked-type (o .type) (o .value) e; value = nacked-value v (o .value) e }, nak-suggests os))
-    (λ _. nak-suggests os)
+    (record { small = omega arith; type = nacked-type s (o .type) (o .value) e; value = nacked-value v (o .value) s e }, nak-suggests p os))
+    (λ _. nak-suggests p os)
 
 -- ---- an Ack
 
@@ -68,9 +73,9 @@ acked-value Ack d s h = refl
 acked-value Nack d s h = absurd (omega arith)
 acked-value Rej d s h = refl
 
-pub acked-all : (f : ℕ → List ℕ → Verdict) (os : List Option) → Top f Ack os → answers f Ack os ≡ os
-acked-all f [] t = refl
-acked-all f (o ∷ os) t =
+pub acked-all : (f : ℕ → List ℕ → Verdict) (s : List ℕ) (os : List Option) → Top f Ack os → answers f s Ack os ≡ os
+acked-all f s [] t = refl
+acked-all f s (o ∷ os) t =
     let v = f (o .type) (o .value) in
     let e : rankOf v ≡ 0 = omega (arith, t .0) in
-    rw (eq-eqb (rankOf v) 0 e, acked-value v (o .value) suggestion (t .0), acked-all f os (t .1)) refl
+    rw (eq-eqb (rankOf v) 0 e, acked-value v (o .value) s (t .0), acked-all f s os (t .1)) refl

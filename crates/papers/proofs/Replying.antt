@@ -1,7 +1,7 @@
 -- How an automaton answers a Configure-Request of RFC 1661: the code of the reply is the paper's for its verdict (5.2 to 5.4).
 -- Assumes nothing.
 use Prim.Native.Nat.{ℕ, _+_, _≤_, _<_}
-use mathlib.Core.Path.{_≡_, refl, subst, _∙_}
+use mathlib.Core.Path.{_≡_, refl, ap, subst, _∙_}
 use mathlib.Core.Bool.{true, false, cond, false≢true}
 use mathlib.Core.List.{List, [], _∷_}
 use borrow.Author.Tests.{le-ltb}
@@ -19,12 +19,13 @@ use Rattle.papers.specs.Rfc1661.{Carried, configureRequest, configureAck
 use Rattle.options.specs.Refusal.{isDone}
 use Rattle.options.specs.Wire.{packetOf, contentOf}
 use Rattle.options.specs.Options.{walkOf}
-use Rattle.options.specs.Proto.{protocolOf, startOf}
+use Rattle.options.specs.Proto.{protocolOf, startOf, suggestionOf}
 use Rattle.options.proofs.Fair.{length-packet, fair-answer}
 use Rattle.negotiation.specs.Messages.{nextId, requestBytes, codeOf, replyBytes}
 use Rattle.negotiation.specs.Automaton.{isClosed, isOpened, Turn, requested, repliedTurn, unless, reqWith, reqOf, actOf, handleOf}
+use Rattle.options.proofs.Suggesting.{start-suggestion}
 use Rattle.papers.proofs.Packets.{Sent}
-use Rattle.papers.proofs.Verdicts.{verdictOf, judgedAll}
+use Rattle.papers.proofs.Verdicts.{lcpVerdict, verdictOf, judgedAll}
 use Rattle.papers.proofs.Listed.{answers, Top}
 use Rattle.papers.proofs.Answers.{replyTo, reply-top, reply-options, reply-proto, reply-ack}
 use Rattle.papers.proofs.Sending.{numberFor, number-kind, sent-by}
@@ -48,7 +49,7 @@ pub record Replied (f : OptionFsm) (i : ℕ) (request : List ℕ) (os : List Opt
   pub bytes : List ℕ
   -- the options whose verdict is the reply's, and no option has a higher one
   pub packet : Sent bytes (numberFor (f .proto)) (answerCode verdict) i info
-  pub listed : Options info (answers (verdictOf (f .proto)) verdict os)
+  pub listed : Options info (answers (verdictOf (f .proto)) (suggestionOf (f .proto)) verdict os)
   pub top : Top (verdictOf (f .proto)) verdict os
   -- an Ack is the request's bytes
   pub acked : verdict ≡ Ack → info ≡ request
@@ -62,7 +63,7 @@ done-with Done f t d = refl
 done-with (Refused why) f t d = absurd (false≢true d)
 
 start-verdict : (p : Proto) → verdictOf (startOf p) ≡ verdictOf p
-start-verdict (Lcp p) = refl
+start-verdict (Lcp p) = ap lcpVerdict (start-suggestion (Lcp p))
 start-verdict (Ipv4cp p) = refl
 
 module _ (f : OptionFsm) (i : ℕ) (b : i < 256) {request : List ℕ} {os : List Option} (l : Options request os)
@@ -86,7 +87,7 @@ module _ (f : OptionFsm) (i : ℕ) (b : i < 256) {request : List ℕ} {os : List
         info = contentOf (r .packet);
         bytes = replyBytes i r;
         packet = subst (λ (m : ℕ). Sent (replyBytes i r) m (answerCode (r .verdict)) i (contentOf (r .packet))) (number-kind (r .proto) (f .proto) (fair .kind)) x;
-        listed = rw v at (reply-options q l d);
+        listed = rw (v, start-suggestion (f .proto)) at (reply-options q l d);
         top = rw v at (reply-top q l d);
         acked = reply-ack q l d;
         proto = y ∙ reply-proto q l d;

@@ -1,12 +1,11 @@
 -- What an automaton sends of its own accord is RFC 1661's, with the paper's number and code: Configure-Request and Protocol-Reject.
 -- Assumes nothing.
 use Prim.Native.Nat.{ℕ, _+_, _≤_, _<_}
-use mathlib.Core.Path.{_≡_, refl}
+use mathlib.Core.Path.{_≡_, refl, sym, _∙_}
 use mathlib.Core.List.{List, [], _∷_, _++_}
 use borrow.Author.Tests.{le-ltb}
 use native.Mathlib.Omega.{arith}
 use lib.ListN.{length}
-use Rattle.laws.proofs.Cases.{apart}
 use Rattle.options.specs.declared.ipv4cp.Ipv4cp.{Ipv4cp}
 use Rattle.options.specs.declared.lcp.Lcp.{Lcp}
 use Rattle.options.specs.declared.proto.Proto.{Proto}
@@ -17,7 +16,7 @@ use Rattle.papers.specs.Rfc1662Options.{AsyncMap}
 use Rattle.papers.specs.Rfc1332.{ipcp, IpAddress, PrimaryDns, SecondaryDns}
 use Rattle.options.specs.Wire.{packetOf}
 use Rattle.options.specs.Proto.{protocolOf, ownOf}
-use Rattle.options.proofs.Fair.{isLcp, own-short}
+use Rattle.options.proofs.Fair.{own-short}
 use Rattle.negotiation.specs.Messages.{nextId, requestBytes, rejectBytes}
 use Rattle.negotiation.specs.Automaton.{turned, stepped, requested, rejectTurn, openedFsm}
 use Rattle.papers.proofs.Packets.{Sent, laid-packet}
@@ -31,11 +30,12 @@ abbrev pub numberFor : Proto → ℕ
 numberFor (OfLcp p) = lcp
 numberFor (OfIpv4cp p) = ipcp
 
-pub number-kind : (p q : Proto) → isLcp p ≡ isLcp q → numberFor p ≡ numberFor q
-number-kind (OfLcp p) (OfLcp q) e = refl
-number-kind (OfLcp p) (OfIpv4cp q) e = apart (cc)
-number-kind (OfIpv4cp p) (OfLcp q) e = apart (cc)
-number-kind (OfIpv4cp p) (OfIpv4cp q) e = refl
+number-of : (p : Proto) → numberFor p ≡ protocolOf p
+number-of (OfLcp p) = refl
+number-of (OfIpv4cp p) = refl
+
+pub number-kind : (p q : Proto) → protocolOf p ≡ protocolOf q → numberFor p ≡ numberFor q
+number-kind p q e = number-of p ∙ e ∙ sym (number-of q)
 
 pub sent-by : (p : Proto) (c i : ℕ) (d : List ℕ) → c < 256 → i < 256 → length d + 4 < 65536
     → Sent (packetOf (protocolOf p) c i d) (numberFor p) c i d

@@ -6,15 +6,16 @@ use mathlib.Core.List.{List}
 use mathlib.Core.Logic.{_⊎_, inl, inr}
 use Prim.Native.Nat.{ℕ, zero, suc, _+_, _-_, _≤_, _<_}
 use native.Mathlib.Omega.{arith}
-use borrow.Author.Tests.{eqb-true, lt-ltb, le-ltb}
+use borrow.Author.Tests.{eqb-true, ltb-true, ltb-false, lt-ltb, le-ltb}
 use lib.Dec.{eqb, ltb}
 use lib.ListN.{length, take, drop, getD, length-drop}
 use Rattle.laws.specs.Same.{same}
 use Rattle.laws.proofs.Cases.{by-test, by-le}
 use Rattle.options.specs.Refusal.{outcomeNumber}
 use Rattle.options.specs.Options.{done, cut, opt, walkFrom, walkOf, sentBack}
-use Rattle.options.specs.Proto.{startOf, judgeOf, ownNacked, nacksOf}
-use Rattle.options.specs.Reply.{rankOf, freshReply, suggestion, stepOf, replyOf}
+use Rattle.options.specs.Lcp.{suggestionLcp}
+use Rattle.options.specs.Proto.{startOf, suggestionOf, judgeOf, ownNacked, nacksOf}
+use Rattle.options.specs.Reply.{rankOf, freshReply, stepOf, replyOf}
 use Rattle.options.specs.declared.walk.Parsed.{Parsed}
 use Rattle.options.specs.declared.walk.Parsed.the-variants as parsed
 use Rattle.options.specs.declared.walk.Reply.{Reply}
@@ -26,6 +27,7 @@ use Rattle.options.specs.declared.refusal.Outcome.the-variants.{Done, Refused}
 use Rattle.options.specs.declared.refusal.Refusal.{Refusal}
 use Rattle.options.specs.declared.refusal.Refusal.the-variants.{OptionCut, OptionLong, OptionsMany}
 use Rattle.options.proofs.Replying.{listed-lower, listed-long, listed-higher, listed-many, listed-more}
+use Rattle.options.proofs.Suggesting.{suggestion-short}
 use Rattle.options.proofs.Walks.{walk-done, walk-cut, walk-opt}
 use Rattle.refusals.specs.Packets.{Which, lcp, ipv4cp, verdictFor, sizeBack, Cut, Whole, Fault, Broken}
 
@@ -35,22 +37,24 @@ abbrev pub kindOf : Proto → Which
 kindOf (Lcp p) = lcp
 kindOf (Ipv4cp p) = ipv4cp
 
-judged-rank : (p : Proto) (c : ℕ) (d : List ℕ) → rankOf (judgeOf p c d suggestion .verdict) ≡ verdictFor (kindOf p) c d
+judged-rank : (p : Proto) (c : ℕ) (d : List ℕ) → rankOf (judgeOf p c d .verdict) ≡ verdictFor (kindOf p) c d
+unfolding suggestionLcp
 judged-rank (Lcp p) c d =
     by-test (eqb c 2)
     (λ e. rw (eqb-true c 2 e) (by-test (eqb (length d) 4) (λ f. rw f refl) (λ f. rw f refl)))
-    (λ e. rw e (by-test (eqb c 3) (λ f. rw f (by-test (same d suggestion) (λ g. rw g refl) (λ g. rw g refl))) (λ f. rw f refl)))
+    (λ e. rw e (by-test (eqb c 3) (λ f. rw f (by-test (same d (suggestionLcp p)) (λ g. rw g refl) (λ g. rw g refl))) (λ f. rw f refl)))
 judged-rank (Ipv4cp p) c d =
     by-test (eqb c 3) (λ e. rw e (by-test (eqb (length d) 4) (λ f. rw f refl) (λ f. rw f refl))) (λ e. rw e refl)
 
-judged-kind : (p : Proto) (c : ℕ) (d : List ℕ) → kindOf (judgeOf p c d suggestion .proto) ≡ kindOf p
+judged-kind : (p : Proto) (c : ℕ) (d : List ℕ) → kindOf (judgeOf p c d .proto) ≡ kindOf p
 judged-kind (Lcp p) c d = refl
 judged-kind (Ipv4cp p) c d = refl
 
-size-back : (v : Verdict) (d : List ℕ) → length (sentBack v d suggestion) ≡ sizeBack (rankOf v) d
-size-back Ack d = refl
-size-back Nack d = refl
-size-back Rej d = refl
+-- the value sent back is one that can be listed where document 01's is, whatever is suggested
+size-back : (p : Proto) (v : Verdict) (d : List ℕ) → ltb 4 (length (sentBack v d (suggestionOf p))) ≡ ltb 4 (sizeBack (rankOf v) d)
+size-back p Ack d = refl
+size-back p Nack d = le-ltb 4 (length (suggestionOf p)) (suggestion-short p)
+size-back p Rej d = refl
 
 -- a reply that goes on, with so many options listed of the verdict top
 record At (w : Which) (top listed : ℕ) (r : Reply) : Type 0 where
@@ -60,21 +64,29 @@ record At (w : Which) (top listed : ℕ) (r : Reply) : Type 0 where
   count : r .count ≡ listed
 
 module _ {w : Which} {top listed : ℕ} {r : Reply} (i : At w top listed r) (c : ℕ) (d : List ℕ) where
-  ranked : rankOf (judgeOf (r .proto) c d suggestion .verdict) ≡ verdictFor w c d
+  ranked : rankOf (judgeOf (r .proto) c d .verdict) ≡ verdictFor w c d
   ranked = rw (← i .kind) (judged-rank (r .proto) c d)
 
-  sized : length (sentBack (judgeOf (r .proto) c d suggestion .verdict) d suggestion) ≡ sizeBack (verdictFor w c d) d
-  sized = rw (← ranked) (size-back (judgeOf (r .proto) c d suggestion .verdict) d)
+  sized : ltb 4 (length (sentBack (judgeOf (r .proto) c d .verdict) d (suggestionOf (r .proto)))) ≡ ltb 4 (sizeBack (verdictFor w c d) d)
+  sized = rw (← ranked) (size-back (r .proto) (judgeOf (r .proto) c d .verdict) d)
 
-  kinded : kindOf (judgeOf (r .proto) c d suggestion .proto) ≡ w
+  kinded : kindOf (judgeOf (r .proto) c d .proto) ≡ w
   kinded = judged-kind (r .proto) c d ∙ i .kind
 
   -- the option as it is listed
   verdict : Verdict
-  verdict = judgeOf (r .proto) c d suggestion .verdict
+  verdict = judgeOf (r .proto) c d .verdict
 
   value : List ℕ
-  value = sentBack (judgeOf (r .proto) c d suggestion .verdict) d suggestion
+  value = sentBack (judgeOf (r .proto) c d .verdict) d (suggestionOf (r .proto))
+
+  long : 4 < sizeBack (verdictFor w c d) d → 4 < length value
+  unfolding value
+  long k = ltb-true 4 _ (sized ∙ lt-ltb 4 _ k)
+
+  short : sizeBack (verdictFor w c d) d ≤ 4 → length value ≤ 4
+  unfolding value
+  short k = ltb-false 4 _ (sized ∙ le-ltb 4 _ k)
 
   step-lower : verdictFor w c d < top → At w top listed (stepOf r c d)
   unfolding stepOf verdict value
@@ -84,23 +96,23 @@ module _ {w : Which} {top listed : ℕ} {r : Reply} (i : At w top listed r) (c :
 
   step-long : top ≤ verdictFor w c d → 4 < sizeBack (verdictFor w c d) d → stepOf r c d .outcome ≡ Refused OptionLong
   unfolding stepOf verdict value
-  step-long h k = rw (listed-long r _ verdict c value (omega (arith, ranked, i .rank)) (omega (arith, sized))) refl
+  step-long h k = rw (listed-long r _ verdict c value (omega (arith, ranked, i .rank)) (long k)) refl
 
   step-higher : top < verdictFor w c d → sizeBack (verdictFor w c d) d ≤ 4 → At w (verdictFor w c d) 1 (stepOf r c d)
   unfolding stepOf verdict value
   step-higher h k =
-      rw (listed-higher r _ verdict c value (omega (arith, ranked, i .rank)) (omega (arith, sized)))
+      rw (listed-higher r _ verdict c value (omega (arith, ranked, i .rank)) (short k))
       (record { done = refl; kind = kinded; rank = ranked; count = refl })
 
   step-many : top ≡ verdictFor w c d → sizeBack (verdictFor w c d) d ≤ 4 → 6 ≤ listed → stepOf r c d .outcome ≡ Refused OptionsMany
   unfolding stepOf verdict value
   step-many h k m =
-      rw (listed-many r _ verdict c value (i .rank ∙ h ∙ sym ranked) (omega (arith, sized)) (omega (arith, i .count))) refl
+      rw (listed-many r _ verdict c value (i .rank ∙ h ∙ sym ranked) (short k) (omega (arith, i .count))) refl
 
   step-another : top ≡ verdictFor w c d → sizeBack (verdictFor w c d) d ≤ 4 → listed < 6 → At w top (listed + 1) (stepOf r c d)
   unfolding stepOf verdict value
   step-another h k m =
-      rw (listed-more r _ verdict c value (i .rank ∙ h ∙ sym ranked) (omega (arith, sized)) (omega (arith, i .count)))
+      rw (listed-more r _ verdict c value (i .rank ∙ h ∙ sym ranked) (short k) (omega (arith, i .count)))
       (record { done = refl; kind = kinded; rank = ranked ∙ sym h; count = ap (λ (n : ℕ). n + 1) (i .count) })
 
 -- ---- the walk

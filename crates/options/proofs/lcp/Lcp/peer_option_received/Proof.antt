@@ -13,18 +13,30 @@ returns c = search (needs, eq-eqb, c .be .ensures)
 returns-2 : tie.Need-returns-2
 returns-2 c = search (needs, eq-eqb, ne-eqb)
 
-same-requires : tie.Need-same-requires
-same-requires c κs = search needs
+is-suggested-requires : tie.Need-is-suggested-requires
+is-suggested-requires c κs = search needs
+
+with-auth-requires : tie.Need-with-auth-requires
+with-auth-requires c κs = search needs
 
 returns-3 : tie.Need-returns-3
-returns-3 c = search (needs, eq-eqb, ne-eqb, sym (c .before .same .ensures) ∙ c .if4 .taken)
+returns-3 c = search (needs, eq-eqb, ne-eqb, sym (c .before .before .is-suggested .ensures) ∙ c .before .if4 .taken, c .with-auth .ensures)
 
 returns-4 : tie.Need-returns-4
-returns-4 c = search (needs, eq-eqb, ne-eqb, sym (c .before .same .ensures) ∙ c .if4 .left)
+returns-4 c = search (needs, eq-eqb, ne-eqb, sym (c .before .is-suggested .ensures) ∙ c .if4 .left)
 
 returns-5 : tie.Need-returns-5
 returns-5 c = search (needs, ne-eqb)
 
 pub peer-option-received-spec : {M : Type 1} → statement M
 peer-option-received-spec =
-    tie.close (tie.spec be-requires returns returns-2 same-requires returns-3 returns-4 returns-5)
+    tie.close
+    (tie.spec
+    be-requires
+    returns
+    returns-2
+    is-suggested-requires
+    with-auth-requires
+    returns-3
+    returns-4
+    returns-5)

@@ -6,7 +6,7 @@ use native.Mathlib.Nat.{add-zero}
 use lib.ListN.{length, drop}
 use lib.Seq.{sets, drop-length}
 use Rattle.laws.proofs.Stores.{sets-next}
-use Rattle.options.specs.Wire.{pushedAll}
+use Rattle.options.specs.Wire.{maxPacket, pushedAll}
 use Rattle.options.proofs.wire.Packet.push_all.Statement.{statement}
 use Rattle.options.proofs.wire.Packet.push_all.Tie as tie
 
@@ -23,13 +23,13 @@ returns : tie.Need-returns Inv-loop μ-loop
 unfolding pushedAll
 returns c =
     let a = c .before .args in
-    rw (lt-leb (a .self .len + length (a .d .now)) 128 (omega arith)) refl
+    rw (lt-leb (a .self .len + length (a .d .now)) maxPacket (omega arith)) refl
 
 returns-2 : tie.Need-returns-2 Inv-loop μ-loop
 unfolding pushedAll
 returns-2 c =
     let a = c .before .before .args in
-    rw (lt-leb (a .self .len + length (a .d .now)) 128 (omega arith)) refl
+    rw (lt-leb (a .self .len + length (a .d .now)) maxPacket (omega arith)) refl
 
 loop-holds : tie.Need-loop-holds Inv-loop μ-loop
 loop-holds c = (omega arith, omega arith, rw add-zero)
@@ -62,7 +62,7 @@ returns-3 c =
     let a = c .before .before .before .before .args in
     let e : l .i ≡ length (a .d .now) = omega arith in
     let n : a .self .len + length (a .d .now) ≡ l .p .len = omega arith in
-    rw (le-leb (a .self .len + length (a .d .now)) 128 (omega arith), ← l .inv .2, e, drop-length, n) refl
+    rw (le-leb (a .self .len + length (a .d .now)) maxPacket (omega arith), ← l .inv .2, e, drop-length, n) refl
 
 pub push-all-spec : {M : Type 1} → statement M
 push-all-spec =
