@@ -14,7 +14,7 @@ use Rattle.options.specs.declared.proto.Proto.the-variants.{Lcp as OfLcp}
 use Rattle.options.specs.declared.proto.Verdict.the-variants.{Ack}
 use Rattle.papers.specs.Rfc1661.{Option}
 use Rattle.papers.specs.Rfc1662Options.{AsyncMap, bitFor}
-use Rattle.options.specs.Lcp.{ownLcp, judgeLcp, judgedLcp, withRemote}
+use Rattle.options.specs.Lcp.{withRemote, withOwn, judgeLcp, judgedLcp, ownLcp}
 use Rattle.options.specs.Proto.{ownNacked}
 use Rattle.papers.proofs.Octets.{four-octets}
 use Rattle.papers.proofs.Layouts1661.{Field, laid-field}
@@ -29,8 +29,8 @@ laid-map p h =
 -- ---- what is read
 
 abbrev pub takenMap : Bool → Lcp → ℕ → Lcp
-takenMap true p m = record { auth = p .auth; «asyncmap_remote» = p .«asyncmap_remote»; asyncmap = p .asyncmap; «asyncmap_rej» = true }
-takenMap false p m = record { auth = p .auth; «asyncmap_remote» = p .«asyncmap_remote»; asyncmap = m; «asyncmap_rej» = p .«asyncmap_rej» }
+takenMap true p m = withOwn p (p .asyncmap) true
+takenMap false p m = withOwn p m (p .«asyncmap_rej»)
 
 module _ {o : Option} {m : ℕ} (x : AsyncMap o m) where
   -- its data by our own fields
