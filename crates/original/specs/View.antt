@@ -1,5 +1,4 @@
 -- Our records as the original's: the one file that later changes of our link touch.
-use mathlib.Core.Bool.{true, false}
 use mathlib.Core.List.{List}
 use Prim.Native.Nat.{ℕ}
 use Rattle.framing.specs.declared.frame_writer.FrameWriter as writer
@@ -18,6 +17,7 @@ use Rattle.phases.specs.declared.ppp.Phase as phase
 use Rattle.phases.specs.declared.ppp.LcpFsm as lcpFsm
 use Rattle.phases.specs.declared.ppp.Ipv4cpFsm as ipv4cpFsm
 use Rattle.phases.specs.declared.ppp.Ppp as ppp
+use Rattle.phases.specs.declared.ppp.Ipv4Status as ipv4Status
 use Rattle.phases.specs.declared.ppp.Status as status
 use Rattle.link.specs.declared.pppos.PPPoS as link
 use Rattle.link.specs.declared.pppos.PPPoSAction as action
@@ -100,7 +100,7 @@ asAction None = action.the-variants.Idle
 asAction (Received from to) = action.the-variants.Received from to
 asAction (Transmit n) = action.the-variants.Transmit n
 
--- what the original shows, as ours does: no address while it is down
+-- what the original shows, as ours does
 abbrev pub asPhase : Phase → phase.Phase
 asPhase Dead = phase.the-variants.Dead
 asPhase Establish = phase.the-variants.Establish
@@ -112,12 +112,12 @@ abbrev pub asShown : Shown → shown.Shown
 asShown NoAddr = shown.the-variants.Absent
 asShown (SomeAddr a) = shown.the-variants.At a
 
-abbrev pub asShownStatus : phase.Phase → Ipv4 → status.Status
-asShownStatus f Down =
-    record { phase = f; up = false; address = shown.the-variants.Absent; «peer_address» = shown.the-variants.Absent; «dns_server_1» = shown.the-variants.Absent; «dns_server_2» = shown.the-variants.Absent }
-asShownStatus f (Up i) =
-    record { phase = f; up = true; address = asShown (i .address); «peer_address» = asShown (i .peerAddress); «dns_server_1» = asShown (i .dnsServer1); «dns_server_2» = asShown (i .dnsServer2) }
+abbrev pub asIpv4 : Ipv4 → ipv4Status.Ipv4Status
+asIpv4 Down = ipv4Status.the-variants.Down
+asIpv4 (Up i) =
+    ipv4Status.the-variants.Up
+    (record { address = asShown (i .address); «peer_address» = asShown (i .peerAddress); «dns_server_1» = asShown (i .dnsServer1); «dns_server_2» = asShown (i .dnsServer2) })
 
 -- a status of the original, as ours gives it
 abbrev pub asStatus : Status → status.Status
-asStatus s = asShownStatus (asPhase (s .phase)) (s .ipv4)
+asStatus s = record { phase = asPhase (s .phase); ipv4 = asIpv4 (s .ipv4) }

@@ -23,8 +23,6 @@ use Rattle.options.specs.declared.lcp.Lcp.{Lcp}
 use Rattle.options.specs.declared.lcp.AuthType.{AuthType}
 use Rattle.options.specs.declared.lcp.AuthType.the-variants.{None, Pap}
 use Rattle.options.specs.declared.ipv4cp.Ipv4cp.{Ipv4cp}
-use Rattle.options.specs.declared.ipv4cp.Shown.{Shown}
-use Rattle.options.specs.declared.ipv4cp.Shown.the-variants.{Absent}
 use Rattle.negotiation.specs.declared.states.State.{State}
 use Rattle.negotiation.specs.declared.states.State.the-variants.{Closed}
 use Rattle.negotiation.specs.declared.option_fsm.OptionFsm.{OptionFsm}
@@ -37,6 +35,8 @@ use Rattle.phases.specs.declared.ppp.Phase.the-variants.{Dead, Establish
 use Rattle.phases.specs.declared.ppp.LcpFsm.{LcpFsm}
 use Rattle.phases.specs.declared.ppp.Ipv4cpFsm.{Ipv4cpFsm}
 use Rattle.phases.specs.declared.ppp.Ppp.{Ppp}
+use Rattle.phases.specs.declared.ppp.Addresses.{Addresses}
+use Rattle.phases.specs.declared.ppp.Ipv4Status.the-variants as ipv4Status
 use Rattle.phases.specs.declared.ppp.Status.{Status}
 use Rattle.phases.specs.declared.phase.Stepped.{Stepped}
 use Rattle.phases.specs.declared.ppp.Turned.{Turned}
@@ -244,20 +244,20 @@ newOf name password =
     (pppTurned (freshPpp name password) [])
     (pppRefused (freshPpp [] []) CredentialsLong)
 
--- what shows: the addresses only where IPv4CP is Opened
-abbrev pub shownIf : Bool → Shown → Shown
-shownIf up a = cond up a Absent
+-- the addresses that IPv4CP has
+abbrev pub addressesOf : Ipv4cp → Addresses
+addressesOf i =
+    record {
+      address = shownIp (i .address);
+      «peer_address» = shown (i .«peer_address»);
+      «dns_server_1» = shownIp (i .«dns_server_1»);
+      «dns_server_2» = shownIp (i .«dns_server_2»);
+    }
 
+-- what shows: the addresses only where IPv4CP is Opened
 abbrev pub statusOf : Ppp → Status
 statusOf p =
-    record {
-      phase = p .phase;
-      up = isOpened (p .ipv4cp .state);
-      address = shownIf (isOpened (p .ipv4cp .state)) (shownIp (p .ipv4cp .proto .address));
-      «peer_address» = shownIf (isOpened (p .ipv4cp .state)) (shown (p .ipv4cp .proto .«peer_address»));
-      «dns_server_1» = shownIf (isOpened (p .ipv4cp .state)) (shownIp (p .ipv4cp .proto .«dns_server_1»));
-      «dns_server_2» = shownIf (isOpened (p .ipv4cp .state)) (shownIp (p .ipv4cp .proto .«dns_server_2»));
-    }
+    record { phase = p .phase; ipv4 = cond (isOpened (p .ipv4cp .state)) (ipv4Status.Up (addressesOf (p .ipv4cp .proto))) ipv4Status.Down }
 
 -- ---- as the code holds it
 

@@ -2,7 +2,7 @@
 ghost use mathlib.Core.Path.{_≡_};
 ghost use Rattle.negotiation.specs.Automaton.{handleOf};
 ghost use Rattle.negotiation.specs.Pap.{papHandleOf};
-ghost use Rattle.phases.specs.Phases.{freshWith, lcpIn, ipv4cpIn, pppRefused, lcpTurn, lcpTurned, papTurn, ipv4cpTurn, rejectOf, receivedOf, isDead, pollOf, turnOf, openOf, newOf, statusOf, turnedAs, Changes, Turns};
+ghost use Rattle.phases.specs.Phases.{freshWith, lcpIn, ipv4cpIn, pppRefused, lcpTurn, lcpTurned, papTurn, ipv4cpTurn, rejectOf, receivedOf, isDead, pollOf, turnOf, openOf, newOf, addressesOf, statusOf, turnedAs, Changes, Turns};
 use crate::slots::ipv4cp_in;
 use crate::slots::ipv4cp_out;
 use crate::slots::lcp_in;
@@ -53,13 +53,21 @@ pub struct Ppp {
     pub ipv4cp: Ipv4cpFsm,
 }
 
-pub struct Status {
-    pub phase: Phase,
-    pub up: bool,
+pub struct Addresses {
     pub address: Shown,
     pub peer_address: Shown,
     pub dns_server_1: Shown,
     pub dns_server_2: Shown,
+}
+
+pub enum Ipv4Status {
+    Down,
+    Up(Addresses),
+}
+
+pub struct Status {
+    pub phase: Phase,
+    pub ipv4: Ipv4Status,
 }
 
 pub struct Changed {
@@ -84,6 +92,20 @@ fn is_dead(f: Phase) -> bool
         Phase::Auth => false,
         Phase::Network => false,
         Phase::Open => false,
+    }
+}
+
+fn addresses_of(i: Ipv4cp) -> Addresses
+    ensures { λ r. ⌜ r ≡ addressesOf i ⌝ }
+{
+    let a = i.address;
+    let d = i.dns_server_1;
+    let e = i.dns_server_2;
+    Addresses {
+        address: a.get(),
+        peer_address: show(i.peer_address),
+        dns_server_1: d.get(),
+        dns_server_2: e.get(),
     }
 }
 
@@ -154,23 +176,12 @@ impl Ppp {
         if !is_opened(s) {
             return Status {
                 phase: f,
-                up: false,
-                address: Shown::Absent,
-                peer_address: Shown::Absent,
-                dns_server_1: Shown::Absent,
-                dns_server_2: Shown::Absent,
+                ipv4: Ipv4Status::Down,
             };
         }
-        let a = i.address;
-        let d = i.dns_server_1;
-        let e = i.dns_server_2;
         Status {
             phase: f,
-            up: true,
-            address: a.get(),
-            peer_address: show(i.peer_address),
-            dns_server_1: d.get(),
-            dns_server_2: e.get(),
+            ipv4: Ipv4Status::Up(addresses_of(i)),
         }
     }
 

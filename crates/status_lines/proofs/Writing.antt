@@ -1,6 +1,6 @@
 -- Laws of the status lines: texts one behind the other in a buffer, and how long each can be.
 -- Assumes nothing.
-use mathlib.Core.Path.{_≡_, ap, _∙_}
+use mathlib.Core.Path.{_≡_, _∙_}
 use mathlib.Core.Bool.{Bool, true, false}
 use mathlib.Core.List.{List, _++_}
 use Prim.Native.Nat.{ℕ, _+_, _/_, _%_, _≤_, _<_}
@@ -8,15 +8,17 @@ use native.Mathlib.Omega.{arith}
 use borrow.Author.Tests.{leb-true, le-leb, lt-leb}
 use lib.Dec.{ltb, leb, lit≤}
 use lib.ListN.{length, take, replicate, length-append, length-replicate}
-use Rattle.laws.proofs.Cases.{by-test, cond-by, cond-all}
+use Rattle.laws.proofs.Cases.{cond-by, cond-all}
 use Rattle.laws.proofs.Stores.{sets-append, sets-front, take-sets}
-use Rattle.phases.specs.Phases.{shownIf}
 use Rattle.phases.specs.declared.ppp.Phase.{Phase}
 use Rattle.phases.specs.declared.ppp.Phase.the-variants.{Dead, Establish, Auth, Network, Open}
 use Rattle.options.specs.declared.ipv4cp.Shown.{Shown}
 use Rattle.options.specs.declared.ipv4cp.Shown.the-variants.{Absent, At}
+use Rattle.phases.specs.declared.ppp.Ipv4Status.{Ipv4Status}
+use Rattle.phases.specs.declared.ppp.Ipv4Status.the-variants.{Down, Up}
 use Rattle.phases.specs.declared.ppp.Status.{Status}
-use Rattle.status_lines.specs.Lines.{phaseName, upName, decimal, dotted, addressText, addressLine, addressKey, peerKey, dns1Key, dns2Key, headOf, linesOf, Puts, Shows}
+use Rattle.status_lines.specs.declared.status.Fields.{Fields}
+use Rattle.status_lines.specs.Lines.{phaseName, upName, decimal, dotted, addressText, addressLine, addressKey, peerKey, dns1Key, dns2Key, headOf, sixLines, fieldsWith, fieldsOf, linesOf, Puts, Shows}
 use Rattle.framing.specs.declared.refusal.Refusal.the-variants.{BufferFull}
 use Rattle.framing.specs.declared.refusal.Outcome.{Outcome}
 use Rattle.framing.specs.declared.refusal.Outcome.the-variants.{Done, Refused}
@@ -55,60 +57,51 @@ pub up-short : (b : Bool) → length (upName b) ≤ 4
 up-short true = lit≤ tt
 up-short false = lit≤ tt
 
-module _ (key : List ℕ) (up : Bool) (a : Shown) where
-  pub line-short : length (addressLine key up a) ≤ length key + 16
-  unfolding addressLine
-  line-short = simp length-append (omega (arith, address-short (shownIf up a)))
+pub line-short : (key : List ℕ) (a : Shown) → length (addressLine key a) ≤ length key + 16
+unfolding addressLine
+line-short key a = simp length-append (omega (arith, address-short a))
 
-  -- "none"
-  down-short : up ≡ false → length (addressLine key up a) ≤ length key + 5
-  unfolding addressLine
-  down-short e = rw e (simp length-append (omega arith))
+-- "none"
+none-short : (key : List ℕ) → length (addressLine key Absent) ≤ length key + 5
+unfolding addressLine
+none-short key = simp length-append (omega arith)
 
-head-length : (s : Status) → length (headOf s) ≡ length (phaseName (s .phase)) + (length (upName (s .up)) + 13)
+head-length : (f : Phase) (up : Bool) → length (headOf f up) ≡ length (phaseName f) + (length (upName up) + 13)
 unfolding headOf
-head-length s = simp length-append (omega arith)
+head-length f up = simp length-append (omega arith)
 
-pub head-short : (s : Status) → length (headOf s) ≤ 26
-head-short s = omega (arith, head-length s, phase-short (s .phase), up-short (s .up))
+pub head-short : (f : Phase) (up : Bool) → length (headOf f up) ≤ 26
+head-short f up = omega (arith, head-length f up, phase-short f, up-short up)
 
--- what stands before the last line: "up" is shorter than "down", under which no address is shown
-pub last-room : (s : Status)
-    → length (headOf s)
-    + (length (addressLine addressKey (s .up) (s .address))
-    + (length (addressLine peerKey (s .up) (s .«peer_address»)) + length (addressLine dns1Key (s .up) (s .«dns_server_1»))))
-    ≤ 90
-last-room s =
-    let h = head-length s in
-    let p = phase-short (s .phase) in
-    let u = up-short (s .up) in
-    by-test (s .up)
-    (λ e.
-    omega (
-      arith,
-      ap (λ (b : Bool). length (upName b)) e,
-      line-short addressKey (s .up) (s .address),
-      line-short peerKey (s .up) (s .«peer_address»),
-      line-short dns1Key (s .up) (s .«dns_server_1»),
-    ))
-    (λ e.
-    omega (
-      arith,
-      down-short addressKey (s .up) (s .address) e,
-      down-short peerKey (s .up) (s .«peer_address») e,
-      down-short dns1Key (s .up) (s .«dns_server_1») e,
-    ))
-
--- 111 bytes hold all lines
+-- 111 bytes hold all lines of a status: "up" is shorter than "down", under which no address is shown
 pub lines-short : (s : Status) → length (linesOf s) ≤ 111
-unfolding linesOf
-lines-short s = simp length-append (omega (arith, last-room s, line-short dns2Key (s .up) (s .«dns_server_2»)))
+unfolding sixLines
+lines-short s = go (s .phase) (s .ipv4)
+  where
+    go : (f : Phase) (i : Ipv4Status) → length (sixLines (fieldsWith f i)) ≤ 111
+    go f Down =
+        simp length-append
+        (omega (arith, head-length f false, phase-short f, none-short addressKey, none-short peerKey, none-short dns1Key, none-short dns2Key))
+    go f (Up a) =
+        simp length-append
+        (omega (
+          arith,
+          head-length f true,
+          phase-short f,
+          line-short addressKey (a .address),
+          line-short peerKey (a .«peer_address»),
+          line-short dns1Key (a .«dns_server_1»),
+          line-short dns2Key (a .«dns_server_2»),
+        ))
 
 -- ---- what `lines` promises
 
--- what an array of 111 bytes holds of them
-pub lines-front : {text : List ℕ} {end : ℕ} (s : Status) → Puts (linesOf s) (replicate 111 0) 0 end text → take end text ≡ linesOf s
-lines-front s p = rw (p .ends, p .bytes, take-sets (linesOf s) (replicate 111 0) 0 (rw length-replicate (omega (arith, lines-short s))))
+-- what an array of 113 bytes, room for any fields, holds of them
+pub lines-front : {f : Fields} {text : List ℕ} {end : ℕ} (s : Status) → f ≡ fieldsOf s → Puts (sixLines f) (replicate 113 0) 0 end text
+    → take end text ≡ linesOf s
+lines-front s e p =
+    let q = rw e at p in
+    rw (q .ends, q .bytes, take-sets (linesOf s) (replicate 113 0) 0 (rw length-replicate (omega (arith, lines-short s))))
 
 pub lines-refused : (s : Status) (buf : List ℕ) → length buf < length (linesOf s) → Shows s buf (Refused BufferFull) 0 buf
 lines-refused s buf h =

@@ -7,12 +7,14 @@ use lib.Dec.{ltb, leb}
 use lib.ListN.{length}
 use lib.Seq.{sets}
 use Rattle.framing.specs.Writer.{over}
-use Rattle.phases.specs.Phases.{shownIf}
 use Rattle.phases.specs.declared.ppp.Phase.{Phase}
 use Rattle.phases.specs.declared.ppp.Phase.the-variants.{Dead, Establish, Auth, Network, Open}
 use Rattle.options.specs.declared.ipv4cp.Shown.{Shown}
 use Rattle.options.specs.declared.ipv4cp.Shown.the-variants.{Absent, At}
+use Rattle.phases.specs.declared.ppp.Ipv4Status.{Ipv4Status}
+use Rattle.phases.specs.declared.ppp.Ipv4Status.the-variants.{Down, Up}
 use Rattle.phases.specs.declared.ppp.Status.{Status}
+use Rattle.status_lines.specs.declared.status.Fields.{Fields}
 use Rattle.framing.specs.Refusal.{outcomeNumber}
 use Rattle.framing.specs.declared.refusal.Outcome.{Outcome}
 
@@ -69,21 +71,32 @@ dns1Key = 100 ∷ 110 ∷ 115 ∷ 49 ∷ 61 ∷ []
 abbrev pub dns2Key : List ℕ
 dns2Key = 100 ∷ 110 ∷ 115 ∷ 50 ∷ 61 ∷ []
 
-unfoldable pub headOf : Status → List ℕ
-headOf s = line phaseKey (phaseName (s .phase)) ++ line ipv4Key (upName (s .up))
+-- the first two lines
+unfoldable pub headOf : Phase → Bool → List ℕ
+headOf f up = line phaseKey (phaseName f) ++ line ipv4Key (upName up)
 
--- a line with an address, which is shown only while IPv4 is up
-unfoldable pub addressLine : List ℕ → Bool → Shown → List ℕ
-addressLine key up a = line key (addressText (shownIf up a))
+-- a line with an address
+unfoldable pub addressLine : List ℕ → Shown → List ℕ
+addressLine key a = line key (addressText a)
 
 -- what is said, in the order of the six lines
-unfoldable pub linesOf : Status → List ℕ
-linesOf s =
-    headOf s
-    ++ (addressLine addressKey (s .up) (s .address)
-    ++ (addressLine peerKey (s .up) (s .«peer_address»)
-    ++ (addressLine dns1Key (s .up) (s .«dns_server_1»)
-    ++ addressLine dns2Key (s .up) (s .«dns_server_2»))))
+unfoldable pub sixLines : Fields → List ℕ
+sixLines s =
+    headOf (s .phase) (s .up)
+    ++ (addressLine addressKey (s .address)
+    ++ (addressLine peerKey (s .peer) ++ (addressLine dns1Key (s .dns1) ++ addressLine dns2Key (s .dns2))))
+
+-- what the lines say of a status: no address while IPv4 is down
+abbrev pub fieldsWith : Phase → Ipv4Status → Fields
+fieldsWith f Down = record { phase = f; up = false; address = Absent; peer = Absent; dns1 = Absent; dns2 = Absent }
+fieldsWith f (Up a) =
+    record { phase = f; up = true; address = a .address; peer = a .«peer_address»; dns1 = a .«dns_server_1»; dns2 = a .«dns_server_2» }
+
+abbrev pub fieldsOf : Status → Fields
+fieldsOf s = fieldsWith (s .phase) (s .ipv4)
+
+abbrev pub linesOf : Status → List ℕ
+linesOf s = sixLines (fieldsOf s)
 
 -- text from index at of a buffer on: where it ends, and the buffer
 pub record Puts (text buf : List ℕ) (at end : ℕ) (buf′ : List ℕ) : Type 0 where

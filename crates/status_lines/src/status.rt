@@ -2,13 +2,23 @@
 ghost use mathlib.Core.Path.{_≡_};
 ghost use Prim.Native.Nat.{_+_, _≤_, _<_};
 ghost use lib.ListN.{length};
-ghost use Rattle.phases.specs.Phases.{shownIf};
-ghost use Rattle.status_lines.specs.Lines.{phaseName, upName, decimal, dotted, addressText, addressLine, headOf, linesOf, Puts, Shows};
+ghost use Rattle.status_lines.specs.Lines.{phaseName, upName, decimal, dotted, addressText, addressLine, headOf, fieldsOf, sixLines, Puts, Shows};
 use framing::refusal::Outcome;
 use framing::refusal::Refusal;
 use options::ipv4cp::Shown;
+use phases::ppp::Ipv4Status;
 use phases::ppp::Phase;
 use phases::ppp::Status;
+
+// What the lines say, in their order.
+pub struct Fields {
+    pub phase: Phase,
+    pub up: bool,
+    pub address: Shown,
+    pub peer: Shown,
+    pub dns1: Shown,
+    pub dns2: Shown,
+}
 
 pub struct Written {
     pub outcome: Outcome,
@@ -91,58 +101,80 @@ fn put_up(buf: &mut [u8], at: usize, up: bool) -> usize
     }
 }
 
-// Addresses are shown only while IPv4 is up.
-fn shown_if(up: bool, a: Shown) -> Shown
-    ensures { λ r. ⌜ r ≡ shownIf up a ⌝ }
-{
-    if up { a } else { Shown::Absent }
-}
-
 // A line with an address.
-fn put_line(buf: &mut [u8], at: usize, key: &[u8], up: bool, a: Shown) -> usize
+fn put_line(buf: &mut [u8], at: usize, key: &[u8], a: Shown) -> usize
     requires { ⌜ at + length (now key) + 16 ≤ length (now buf) ⌝ }
-    ensures { λ r. ⌜ Puts (addressLine (now (key .entry)) up a) (now (buf .entry)) at r (now (buf .exit)) ⌝ }
+    ensures { λ r. ⌜ Puts (addressLine (now (key .entry)) a) (now (buf .entry)) at r (now (buf .exit)) ⌝ }
 {
     let i = put(buf, at, key);
-    let i = put_address(buf, i, shown_if(up, a));
+    let i = put_address(buf, i, a);
     put(buf, i, b"\n")
 }
 
 // The phase and whether IPv4 is up.
-fn put_head(buf: &mut [u8], s: Status) -> usize
+fn put_head(buf: &mut [u8], f: Phase, up: bool) -> usize
     requires { ⌜ 26 ≤ length (now buf) ⌝ }
-    ensures { λ r. ⌜ Puts (headOf s) (now (buf .entry)) 0 r (now (buf .exit)) ⌝ }
+    ensures { λ r. ⌜ Puts (headOf f up) (now (buf .entry)) 0 r (now (buf .exit)) ⌝ }
 {
-    let f = s.phase;
     let i = put(buf, 0, b"phase=");
     let i = put_phase(buf, i, f);
     let i = put(buf, i, b"\nipv4=");
-    let i = put_up(buf, i, s.up);
+    let i = put_up(buf, i, up);
     put(buf, i, b"\n")
 }
 
-fn put_lines(buf: &mut [u8], s: Status) -> usize
-    requires { ⌜ 111 ≤ length (now buf) ⌝ }
-    ensures { λ r. ⌜ Puts (linesOf s) (now (buf .entry)) 0 r (now (buf .exit)) ⌝ }
+fn put_lines(buf: &mut [u8], s: Fields) -> usize
+    requires { ⌜ 113 ≤ length (now buf) ⌝ }
+    ensures { λ r. ⌜ Puts (sixLines s) (now (buf .entry)) 0 r (now (buf .exit)) ⌝ }
 {
-    let up = s.up;
+    let f = s.phase;
     let a = s.address;
-    let b = s.peer_address;
-    let c = s.dns_server_1;
-    let d = s.dns_server_2;
-    let i = put_head(buf, s);
-    let i = put_line(buf, i, b"address=", up, a);
-    let i = put_line(buf, i, b"peer=", up, b);
-    let i = put_line(buf, i, b"dns1=", up, c);
-    put_line(buf, i, b"dns2=", up, d)
+    let b = s.peer;
+    let c = s.dns1;
+    let d = s.dns2;
+    let i = put_head(buf, f, s.up);
+    let i = put_line(buf, i, b"address=", a);
+    let i = put_line(buf, i, b"peer=", b);
+    let i = put_line(buf, i, b"dns1=", c);
+    put_line(buf, i, b"dns2=", d)
+}
+
+// While IPv4 is down there is no address.
+fn fields_of(s: Status) -> Fields
+    ensures { λ r. ⌜ r ≡ fieldsOf s ⌝ }
+{
+    let f = s.phase;
+    let i = s.ipv4;
+    let Ipv4Status::Up(a) = i else {
+        return Fields {
+            phase: f,
+            up: false,
+            address: Shown::Absent,
+            peer: Shown::Absent,
+            dns1: Shown::Absent,
+            dns2: Shown::Absent,
+        };
+    };
+    let b = a.address;
+    let c = a.peer_address;
+    let d = a.dns_server_1;
+    let e = a.dns_server_2;
+    Fields {
+        phase: f,
+        up: true,
+        address: b,
+        peer: c,
+        dns1: d,
+        dns2: e,
+    }
 }
 
 // All six lines from the front of `out`, or nothing.
 pub fn lines(s: Status, out: &mut [u8]) -> Written
     ensures { λ r. ⌜ Shows s (now (out .entry)) (r .outcome) (r .count) (now (out .exit)) ⌝ }
 {
-    let mut text = [0u8; 111];
-    let n = put_lines(&mut text, s);
+    let mut text = [0u8; 113];
+    let n = put_lines(&mut text, fields_of(s));
     if out.len() < n {
         return Written {
             outcome: Outcome::Refused(Refusal::BufferFull),

@@ -19,18 +19,18 @@ slice-aggregate-put-2 : tie.Need-slice-aggregate-put-2
 slice-aggregate-put-2 c = search needs
 
 put-requires-2 : tie.Need-put-requires-2
-put-requires-2 c κs = omega (arith, phase-short (c .before .before .before .before .before .before .before .before .before .before .before .before .args .s .phase))
+put-requires-2 c κs = omega (arith, phase-short (c .before .before .before .before .before .before .before .before .before .before .before .before .args .f))
 
 put-up-requires : tie.Need-put-up-requires
-put-up-requires c κs = omega (arith, phase-short (c .before .before .before .before .before .before .before .before .before .before .before .before .before .before .before .before .args .s .phase))
+put-up-requires c κs = omega (arith, phase-short (c .before .before .before .before .before .before .before .before .before .before .before .before .before .before .before .before .args .f))
 
 slice-aggregate-put-3 : tie.Need-slice-aggregate-put-3
 slice-aggregate-put-3 c = search needs
 
 put-requires-3 : tie.Need-put-requires-3
 put-requires-3 c κs =
-    let s = c .before .before .before .before .before .before .before .before .before .before .before .before .before .before .before .before .before .before .before .before .before .args .s in
-    omega (arith, phase-short (s .phase), up-short (s .up))
+    let a = c .before .before .before .before .before .before .before .before .before .before .before .before .before .before .before .before .before .before .before .before .before .args in
+    omega (arith, phase-short (a .f), up-short (a .up))
 
 same-length : tie.Need-same-length
 same-length c = search needs

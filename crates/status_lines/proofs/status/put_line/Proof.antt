@@ -8,9 +8,6 @@ use Rattle.status_lines.proofs.status.put_line.Tie as tie
 put-requires : tie.Need-put-requires
 put-requires c κs = search needs
 
-shown-if-requires : tie.Need-shown-if-requires
-shown-if-requires c κs = search needs
-
 put-address-requires : tie.Need-put-address-requires
 put-address-requires c κs = search needs
 
@@ -18,7 +15,7 @@ slice-aggregate-put : tie.Need-slice-aggregate-put
 slice-aggregate-put c = search needs
 
 put-requires-2 : tie.Need-put-requires-2
-put-requires-2 c κs = omega (arith, address-short (c .before .before .before .before .before .shown-if .result))
+put-requires-2 c κs = omega (arith, address-short (c .before .before .before .before .before .before .before .before .before .before .before .before .args .a))
 
 same-length : tie.Need-same-length
 same-length c = search needs
@@ -27,14 +24,13 @@ returns : tie.Need-returns
 unfolding addressLine
 returns c =
     let d = c .before .before .before .before .before .before .before in
-    rw (← d .before .shown-if .ensures) (joined (d .before .before .before .before .before .put .ensures) (joined (d .put-address .ensures) (c .before .before .put2 .ensures)))
+    joined (d .before .before .before .before .put .ensures) (joined (d .put-address .ensures) (c .before .before .put2 .ensures))
 
 pub put-line-spec : {M : Type 1} → statement M
 put-line-spec =
     tie.close
     (tie.spec
     put-requires
-    shown-if-requires
     put-address-requires
     slice-aggregate-put
     put-requires-2

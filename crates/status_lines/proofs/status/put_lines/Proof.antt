@@ -1,7 +1,7 @@
 use borrow.Author.Needs.{needs}
-use Rattle.status_lines.proofs.Writing.{joined, line-short, head-short, last-room}
+use Rattle.status_lines.proofs.Writing.{joined, line-short, head-short}
 use native.Mathlib.Omega.{arith}
-use Rattle.status_lines.specs.Lines.{linesOf, addressKey, peerKey}
+use Rattle.status_lines.specs.Lines.{sixLines, addressKey, peerKey, dns1Key}
 use Rattle.status_lines.proofs.status.put_lines.Statement.{statement}
 use Rattle.status_lines.proofs.status.put_lines.Tie as tie
 
@@ -14,7 +14,7 @@ slice-aggregate-put-line c = search needs
 put-line-requires : tie.Need-put-line-requires
 put-line-requires c κs =
     let s = c .before .before .before .before .before .before .before .args .s in
-    omega (arith, head-short s)
+    omega (arith, head-short (s .phase) (s .up))
 
 slice-aggregate-put-line-2 : tie.Need-slice-aggregate-put-line-2
 slice-aggregate-put-line-2 c = search needs
@@ -22,7 +22,7 @@ slice-aggregate-put-line-2 c = search needs
 put-line-requires-2 : tie.Need-put-line-requires-2
 put-line-requires-2 c κs =
     let s = c .before .before .before .before .before .before .before .before .before .before .before .before .args .s in
-    omega (arith, head-short s, line-short addressKey (s .up) (s .address))
+    omega (arith, head-short (s .phase) (s .up), line-short addressKey (s .address))
 
 slice-aggregate-put-line-3 : tie.Need-slice-aggregate-put-line-3
 slice-aggregate-put-line-3 c = search needs
@@ -30,19 +30,21 @@ slice-aggregate-put-line-3 c = search needs
 put-line-requires-3 : tie.Need-put-line-requires-3
 put-line-requires-3 c κs =
     let s = c .before .before .before .before .before .before .before .before .before .before .before .before .before .before .before .before .before .args .s in
-    omega (arith, head-short s, line-short addressKey (s .up) (s .address), line-short peerKey (s .up) (s .«peer_address»))
+    omega (arith, head-short (s .phase) (s .up), line-short addressKey (s .address), line-short peerKey (s .peer))
 
 slice-aggregate-put-line-4 : tie.Need-slice-aggregate-put-line-4
 slice-aggregate-put-line-4 c = search needs
 
 put-line-requires-4 : tie.Need-put-line-requires-4
-put-line-requires-4 c κs = omega (arith, last-room (c .before .before .before .before .before .before .before .before .before .before .before .before .before .before .before .before .before .before .before .before .before .before .args .s))
+put-line-requires-4 c κs =
+    let s = c .before .before .before .before .before .before .before .before .before .before .before .before .before .before .before .before .before .before .before .before .before .before .args .s in
+    omega (arith, head-short (s .phase) (s .up), line-short addressKey (s .address), line-short peerKey (s .peer), line-short dns1Key (s .dns1))
 
 same-length : tie.Need-same-length
 same-length c = search needs
 
 returns : tie.Need-returns
-unfolding linesOf
+unfolding sixLines
 returns c =
     let d = c .before .before .before .before .before .before .before in
     let e = d .before .before .before .before .before in

@@ -18,29 +18,11 @@ is-opened-requires c κs = search needs
 returns : tie.Need-returns
 returns c = rw (down c) refl
 
-get-requires : tie.Need-get-requires
-get-requires c κs = search needs
-
-show-requires : tie.Need-show-requires
-show-requires c κs = search needs
-
-get-requires-2 : tie.Need-get-requires-2
-get-requires-2 c κs = search needs
-
-get-requires-3 : tie.Need-get-requires-3
-get-requires-3 c κs = search needs
+addresses-of-requires : tie.Need-addresses-of-requires
+addresses-of-requires c κs = search needs
 
 returns-2 : tie.Need-returns-2
-returns-2 c = rw (up (c .before .before .before .before .before .before .before), c .before .before .before .get .ensures, c .before .before .show .ensures, c .before .get2 .ensures, c .get3 .ensures) refl
+returns-2 c = rw (up (c .before), c .addresses-of .ensures) refl
 
 pub status-spec : {M : Type 1} → statement M
-status-spec =
-    tie.close
-    (tie.spec
-    is-opened-requires
-    returns
-    get-requires
-    show-requires
-    get-requires-2
-    get-requires-3
-    returns-2)
+status-spec = tie.close (tie.spec is-opened-requires returns addresses-of-requires returns-2)
