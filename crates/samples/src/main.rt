@@ -4,10 +4,10 @@ use feeding::feed::start;
 use framing::frame_reader::Reading;
 use libc::STDOUT_FILENO;
 use link::choices::Choices;
-use link::pppos::PPPoS;
-use status_lines::status::lines;
+use phases::ppp::Status;
+use status_lines::status::text;
 
-fn played(bytes: &[u8]) -> PPPoS {
+fn played(bytes: &[u8]) -> Status {
     let mut tx = [0u8; 795];
     let mut rx = [0u8; 1600];
     let choices = Choices {
@@ -16,14 +16,8 @@ fn played(bytes: &[u8]) -> PPPoS {
     let p = start(choices, &mut tx, &mut rx);
     let link = p.link;
     let f = feed(link, &mut tx, &mut rx, bytes);
-    f.link
-}
-
-fn show(link: PPPoS) {
-    let mut out = [0u8; 111];
-    let w = lines(link.status(), &mut out);
-    let n = w.count;
-    io::write_all(STDOUT_FILENO, &out[..n]);
+    let link = f.link;
+    link.status()
 }
 
 fn sample(name: &[u8]) {
@@ -38,7 +32,9 @@ fn sample(name: &[u8]) {
     libc::close(fd);
     io::write_all(STDOUT_FILENO, name);
     io::write_all(STDOUT_FILENO, b"\n");
-    show(played(&bytes[..n]));
+    let mut out = [0u8; 111];
+    let t = text(played(&bytes[..n]), &mut out);
+    io::write_all(STDOUT_FILENO, &t[..]);
 }
 
 fn main() {

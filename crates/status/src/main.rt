@@ -6,7 +6,7 @@ use libc::STDIN_FILENO;
 use libc::STDOUT_FILENO;
 use link::choices::Choices;
 use link::pppos::PPPoS;
-use status_lines::status::lines;
+use status_lines::status::text;
 
 struct Step {
     link: PPPoS,
@@ -41,13 +41,6 @@ fn take_all(link: PPPoS, tx: &mut [u8], rx: &mut [u8]) -> PPPoS {
     l
 }
 
-fn show(link: PPPoS) {
-    let mut out = [0u8; 111];
-    let w = lines(link.status(), &mut out);
-    let n = w.count;
-    io::write_all(STDOUT_FILENO, &out[..n]);
-}
-
 fn main() {
     let mut tx = [0u8; 795];
     let mut rx = [0u8; 1600];
@@ -56,5 +49,8 @@ fn main() {
     };
     let p = start(choices, &mut tx, &mut rx);
     let link = p.link;
-    show(take_all(link, &mut tx, &mut rx));
+    let l = take_all(link, &mut tx, &mut rx);
+    let mut out = [0u8; 111];
+    let t = text(l.status(), &mut out);
+    io::write_all(STDOUT_FILENO, &t[..]);
 }

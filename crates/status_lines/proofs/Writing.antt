@@ -1,14 +1,15 @@
 -- Laws of the status lines: texts one behind the other in a buffer, and how long each can be.
 -- Assumes nothing.
-use mathlib.Core.Path.{_≡_, _∙_}
-use mathlib.Core.Bool.{Bool, true, false}
-use mathlib.Core.List.{List, _++_}
+use mathlib.Core.Path.{_≡_, refl, _∙_}
+use mathlib.Core.Bool.{Bool, true, false, cond}
+use mathlib.Core.List.{List, [], _++_}
 use Prim.Native.Nat.{ℕ, _+_, _/_, _%_, _≤_, _<_}
 use native.Mathlib.Omega.{arith}
 use borrow.Author.Tests.{leb-true, le-leb, lt-leb}
 use lib.Dec.{ltb, leb, lit≤}
 use lib.ListN.{length, take, replicate, length-append, length-replicate}
-use Rattle.laws.proofs.Cases.{cond-by, cond-all}
+use lib.Seq.{take-append-seam}
+use Rattle.laws.proofs.Cases.{by-test, cond-by, cond-all}
 use Rattle.laws.proofs.Stores.{sets-append, sets-front, take-sets}
 use Rattle.phases.specs.declared.ppp.Phase.{Phase}
 use Rattle.phases.specs.declared.ppp.Phase.the-variants.{Dead, Establish, Auth, Network, Open}
@@ -119,3 +120,11 @@ pub shown-within : {s : Status} {buf buf′ : List ℕ} {o : Outcome} {n : ℕ} 
 shown-within {s} {buf} p =
     rw (p .count)
     (cond-by (λ (m : ℕ). m ≤ length buf) (leb (length (linesOf s)) (length buf)) (leb-true (length (linesOf s)) (length buf)) (λ _. omega arith))
+
+-- the front of that many bytes
+pub shown-front : {s : Status} {buf buf′ : List ℕ} {o : Outcome} {n : ℕ} → Shows s buf o n buf′
+    → take n buf′ ≡ cond (leb (length (linesOf s)) (length buf)) (linesOf s) []
+shown-front {s} {buf} p =
+    by-test (leb (length (linesOf s)) (length buf))
+    (λ e. rw (p .count, p .bytes, e) (take-append-seam (linesOf s) _))
+    (λ e. rw (p .count, p .bytes, e) refl)

@@ -1,8 +1,11 @@
 // The status lines: phase, ipv4, address, peer, dns1, dns2, each ended by LF.
 ghost use mathlib.Core.Path.{_≡_};
+ghost use mathlib.Core.Bool.{cond};
+ghost use mathlib.Core.List.{[]};
 ghost use Prim.Native.Nat.{_+_, _≤_, _<_};
+ghost use lib.Dec.{leb};
 ghost use lib.ListN.{length};
-ghost use Rattle.status_lines.specs.Lines.{phaseName, upName, decimal, dotted, addressText, addressLine, headOf, fieldsOf, sixLines, Puts, Shows};
+ghost use Rattle.status_lines.specs.Lines.{phaseName, upName, decimal, dotted, addressText, addressLine, headOf, fieldsOf, sixLines, linesOf, Puts, Shows};
 use framing::refusal::Outcome;
 use framing::refusal::Refusal;
 use options::ipv4cp::Shown;
@@ -186,4 +189,13 @@ pub fn lines(s: Status, out: &mut [u8]) -> Written
         outcome: Outcome::Done,
         count: n,
     }
+}
+
+// The lines at the front of `out`, for a caller that prints them; none where they don't fit.
+pub fn text(s: Status, out: &mut [u8]) -> &mut [u8]
+    ensures { λ r. ⌜ now r ≡ cond (leb (length (linesOf s)) (length (now (out .entry)))) (linesOf s) [] ⌝ }
+{
+    let w = lines(s, out);
+    let n = w.count;
+    &mut out[..n]
 }
