@@ -18,8 +18,8 @@ use Rattle.phases.specs.Phases.{PppTurn, pppTurned, receivedOf, pollOf, turnOf}
 use Rattle.phases.specs.declared.ppp.Ppp.{Ppp}
 use Rattle.options.specs.Wire.{protocolIn}
 use Rattle.options.specs.declared.refusal.Outcome as negotiation
-use Rattle.link.specs.Frames.{frames}
-use Rattle.link.specs.Link.{heldBy, Consumes, linkOf, sent, Poll, echoedIn, byOutcome, answered, isIp, packetPoll, pollLink, actionNumber, transmitted}
+use Rattle.link.specs.Frames.{frames, alwaysEnough}
+use Rattle.link.specs.Link.{heldBy, Consumes, linkOf, sent, Poll, echoedIn, byOutcome, answeredPoll, isIp, packetPoll, pollLink, actionNumber, transmitted}
 use Rattle.link.specs.declared.refusal.Outcome.{Outcome}
 use Rattle.link.specs.declared.pppos.PPPoS.{PPPoS}
 use Rattle.link.specs.declared.pppos.PPPoSAction.{PPPoSAction}
@@ -58,12 +58,12 @@ module _ (l : PPPoS) (r : FrameReader) (t : PppTurn) (tx rx : List ℕ) (room : 
   by-outcome negotiation.the-variants.Done = rw (le-leb (length (frames (t .sent))) (length tx) room) (echo-alike (t .echoed) r rx k)
   by-outcome (negotiation.the-variants.Refused why) = alike-refl (held r rx)
 
-  answered-alike : Alike (heldBy (answered l r t tx rx .link) (answered l r t tx rx .rx)) (held r rx)
-  unfolding answered
+  answered-alike : Alike (heldBy (answeredPoll l r t tx rx .link) (answeredPoll l r t tx rx .rx)) (held r rx)
+  unfolding answeredPoll
   answered-alike = by-outcome (t .outcome)
 
--- a poll that is lent 795 bytes leaves what a fetch does, but for bytes behind the kept ones
-pub poll-fetches : (l : PPPoS) (tx rx : List ℕ) → l .«frame_reader» .len ≤ length rx → 795 ≤ length tx
+-- a poll that is lent enough leaves what a fetch does, but for bytes behind the kept ones
+pub poll-fetches : (l : PPPoS) (tx rx : List ℕ) → l .«frame_reader» .len ≤ length rx → alwaysEnough ≤ length tx
     → Alike (heldBy (pollLink l tx rx .link) (pollLink l tx rx .rx)) (fetchedIn (heldBy l rx))
 unfolding pollLink packetPoll
 poll-fetches l tx rx h room =
@@ -80,13 +80,13 @@ poll-fetches l tx rx h room =
     (answered-alike l r (pollOf (l .ppp)) tx rx (omega (arith, poll-narrow (l .ppp))) (λ (x : false ≡ true). absurd (false≢true x))))
 
 -- what such a poll comes to, where negotiation refuses nothing: its turn, and its frames behind one another
-module _ (l : PPPoS) (tx rx : List ℕ) (h : l .«frame_reader» .len ≤ length rx) (room : 795 ≤ length tx) where
+module _ (l : PPPoS) (tx rx : List ℕ) (h : l .«frame_reader» .len ≤ length rx) (room : alwaysEnough ≤ length tx) where
   abbrev pub turned : FrameReader → PppTurn → Poll
   turned r t =
       record { action = sent (length (frames (t .sent))); link = linkOf r (t .ppp); tx = over (frames (t .sent)) tx; rx = echoedIn (t .echoed) rx }
 
-  answered-turned : (r : FrameReader) (t : PppTurn) → length (frames (t .sent)) ≤ 795 → t .outcome ≡ negotiation.the-variants.Done → answered l r t tx rx ≡ turned r t
-  unfolding answered
+  answered-turned : (r : FrameReader) (t : PppTurn) → length (frames (t .sent)) ≤ alwaysEnough → t .outcome ≡ negotiation.the-variants.Done → answeredPoll l r t tx rx ≡ turned r t
+  unfolding answeredPoll
   answered-turned r t n e = rw (e, le-leb (length (frames (t .sent))) (length tx) (omega arith)) refl
 
   pub poll-turns : isComplete (l .«frame_reader» .state) ≡ true → 3 ≤ l .«frame_reader» .len → isIp (packetOf (heldBy l rx)) ≡ false

@@ -13,15 +13,15 @@ use Rattle.phases.specs.Phases.{PppTurn, pollOf, turnOf}
 use Rattle.options.specs.declared.refusal.Outcome.{Outcome}
 use Rattle.options.specs.declared.refusal.Outcome.the-variants.{Done, Refused}
 use Rattle.link.specs.Frames.{frames}
-use Rattle.link.specs.Link.{linkOf, heldBy, Poll, byOutcome, answered, isIp, packetPoll, pollLink}
+use Rattle.link.specs.Link.{linkOf, heldBy, Poll, byOutcome, answeredPoll, isIp, packetPoll, pollLink}
 use Rattle.link.specs.declared.pppos.PPPoS.{PPPoS}
 
 module _ (P : PPPoS → Type 0) (l : PPPoS) (tx rx : List ℕ) (stays : P l) where
   abbrev Leaves : Poll → Type 0
   Leaves q = P (q .link)
 
-  answered-leaves : (r : FrameReader) (t : PppTurn) → P (linkOf r (l .ppp)) → P (linkOf r (t .ppp)) → Leaves (answered l r t tx rx)
-  unfolding answered
+  answered-leaves : (r : FrameReader) (t : PppTurn) → P (linkOf r (l .ppp)) → P (linkOf r (t .ppp)) → Leaves (answeredPoll l r t tx rx)
+  unfolding answeredPoll
   answered-leaves r t old new = by-outcome (t .outcome)
     where
       by-outcome : (o : Outcome) → Leaves (byOutcome o l r t tx rx)

@@ -1,4 +1,4 @@
--- What a poll comes to, case by case; and the code's record of replies stands for negotiation's packets.
+-- What a poll comes to, case by case; and the code's turn stands for negotiation's.
 -- Assumes nothing.
 use mathlib.Core.Path.{_≡_, refl, sym, ap, _∙_}
 use mathlib.Core.Bool.{Bool, true, false, cond, _&&_}
@@ -20,21 +20,23 @@ use Rattle.framing.specs.declared.frame_reader.Got.{Got}
 use Rattle.framing.specs.declared.frame_reader.Got.the-variants.{Packet, Refused, Nothing}
 use Rattle.framing.proofs.OneAnswer.{gots-differ}
 use Rattle.options.specs.Wire.{protocolIn}
-use Rattle.phases.specs.Phases.{PppTurn, restsOf, pollOf, turnOf, turnedAs, Turns}
+use Rattle.phases.specs.Phases.{PppTurn, restsOf, pollOf, turnOf, Turns}
 use Rattle.options.specs.declared.refusal.Refusal as negotiation
 use Rattle.options.specs.declared.refusal.Outcome as negotiated
 use Rattle.negotiation.specs.declared.replies.Replies.{Replies}
 use Rattle.phases.specs.declared.ppp.Ppp.{Ppp}
 use Rattle.phases.specs.declared.ppp.Turned.{Turned}
+use Rattle.negotiation.specs.Replies.{maxReplies, Short}
+use Rattle.negotiation.proofs.Joining.{contents-made, short-made}
 use Rattle.negotiation.proofs.Sends as sending
 use Rattle.phases.proofs.Resting.{rests-still}
 use Rattle.link.specs.declared.refusal.Refusal.the-variants.{Framing, Negotiation, FramesFull}
 use Rattle.link.specs.declared.pppos.PPPoS.{PPPoS}
 use Rattle.link.specs.declared.pppos.PPPoSAction.{PPPoSAction}
 use Rattle.link.specs.declared.pppos.PPPoSAction.the-variants.{Idle, Received, Declined}
-use Rattle.link.specs.Frames.{frames, replies, Short}
-use Rattle.link.specs.Link.{linkOf, heldBy, Poll, declined, sent, echoedIn, byOutcome, answered, writtenAs, repliedBy, replied, isIp, packetPoll, pollLink, actionNumber, actionValues, Polls}
-use Rattle.link.proofs.Sending.{replies-frames, replies-short, turn-narrow, poll-narrow}
+use Rattle.link.specs.Frames.{frames, alwaysEnough}
+use Rattle.link.specs.Link.{linkOf, heldBy, Poll, declined, sent, echoedIn, written, byOutcome, answeredPoll, asTurn, isIp, packetPoll, pollLink, actionNumber, actionValues, Polls}
+use Rattle.link.proofs.Sending.{turn-narrow, poll-narrow}
 
 abbrev pub polled : PPPoSAction → PPPoS → List ℕ → List ℕ → Poll
 polled a l tx rx = record { action = a; link = l; tx = tx; rx = rx }
@@ -53,52 +55,38 @@ polls-of e =
       receive = ap (λ (x : Poll). x .rx) e;
     }
 
--- ---- a turn as the code holds it
+-- ---- a turn
 
-module _ (l : PPPoS) (r : FrameReader) (t : Turned) (tx rx : List ℕ) where
-  pub written-none : {a : PPPoSAction} {k : PPPoS} → leb (length (replies (t .replies))) (length tx) ≡ false → a ≡ Declined FramesFull → k ≡ l
-      → polled a k tx rx ≡ writtenAs l r t tx rx
-  unfolding writtenAs
+module _ (l : PPPoS) (r : FrameReader) (t : PppTurn) (tx rx : List ℕ) where
+  pub written-none : {a : PPPoSAction} {k : PPPoS} → leb (length (frames (t .sent))) (length tx) ≡ false → a ≡ Declined FramesFull → k ≡ l
+      → polled a k tx rx ≡ written l r t tx rx
   written-none h ea ek = rw h (polled-as ea ek refl refl)
 
-  pub written-all : {a : PPPoSAction} {n : ℕ} {tx′ rx′ : List ℕ} → leb (length (replies (t .replies))) (length tx) ≡ true → n ≡ length (replies (t .replies)) → a ≡ sent n
-      → tx′ ≡ sets tx 0 (replies (t .replies)) → rx′ ≡ echoedIn (t .echoed) rx → polled a (linkOf r (t .ppp)) tx′ rx′ ≡ writtenAs l r t tx rx
-  unfolding writtenAs
-  written-all h e ea et er = rw h (polled-as (ea ∙ ap sent e) refl (et ∙ sets-front (replies (t .replies)) tx (leb-true (length (replies (t .replies))) (length tx) h)) er)
+  pub written-all : {a : PPPoSAction} {n : ℕ} {tx′ rx′ : List ℕ} → leb (length (frames (t .sent))) (length tx) ≡ true → n ≡ length (frames (t .sent)) → a ≡ sent n
+      → tx′ ≡ sets tx 0 (frames (t .sent)) → rx′ ≡ echoedIn (t .echoed) rx → polled a (linkOf r (t .ppp)) tx′ rx′ ≡ written l r t tx rx
+  written-all h e ea et er = rw h (polled-as (ea ∙ ap sent e) refl (et ∙ sets-front (frames (t .sent)) tx (leb-true (length (frames (t .sent))) (length tx) h)) er)
 
-  pub replied-refused : {a : PPPoSAction} {k : PPPoS} {why : negotiation.Refusal} → t .outcome ≡ negotiated.the-variants.Refused why
-      → a ≡ Declined (Negotiation why) → k ≡ linkOf r (l .ppp) → polled a k tx rx ≡ replied l r t tx rx
-  unfolding replied
-  replied-refused e ea ek = polled-as ea ek refl refl ∙ sym (ap (λ (o : negotiated.Outcome). repliedBy o l r t tx rx) e)
+  pub answered-refused : {why : negotiation.Refusal} → t .outcome ≡ negotiated.the-variants.Refused why
+      → answeredPoll l r t tx rx ≡ declined (Negotiation why) (linkOf r (l .ppp)) tx rx
+  unfolding answeredPoll
+  answered-refused e = ap (λ (o : negotiated.Outcome). byOutcome o l r t tx rx) e
 
-  pub replied-done : t .outcome ≡ negotiated.the-variants.Done → replied l r t tx rx ≡ writtenAs l r t tx rx
-  unfolding replied
-  replied-done e = ap (λ (o : negotiated.Outcome). repliedBy o l r t tx rx) e
+  pub answered-done : t .outcome ≡ negotiated.the-variants.Done → answeredPoll l r t tx rx ≡ written l r t tx rx
+  unfolding answeredPoll
+  answered-done e = ap (λ (o : negotiated.Outcome). byOutcome o l r t tx rx) e
 
--- ---- the same of negotiation's turn
-
-turned-as : {turn : PppTurn} {o : negotiated.Outcome} {e : Bool} {p : Ppp} {rs : Replies} → Turns turn o e p rs
-    → _≡_ {A = Turned} (record { outcome = o; echoed = e; ppp = p; replies = rs }) (turnedAs turn)
-turned-as h = rw (h .outcome, h .echoed, h .ppp, h .replies) refl
-
-module _ (l : PPPoS) (r : FrameReader) (turn : PppTurn) (tx rx : List ℕ) (few : length (turn .sent) ≤ 3) where
-  replied-by : (o : negotiated.Outcome) → repliedBy o l r (turnedAs turn) tx rx ≡ byOutcome o l r turn tx rx
-  unfolding writtenAs
-  replied-by negotiated.the-variants.Done = rw (replies-frames (turn .sent) few) refl
-  replied-by (negotiated.the-variants.Refused why) = refl
-
-  pub replied-answered : (t : Turned) → Turns turn (t .outcome) (t .echoed) (t .ppp) (t .replies) → replied l r t tx rx ≡ answered l r turn tx rx
-  unfolding replied answered
-  replied-answered t h = ap (λ (x : Turned). repliedBy (x .outcome) l r x tx rx) (turned-as h) ∙ replied-by (turn .outcome)
+-- the code's turn is the one that phases promises
+pub turned-is : {turn : PppTurn} {t : Turned} → Turns turn (t .outcome) (t .echoed) (t .ppp) (t .replies) → asTurn t ≡ turn
+turned-is {turn} h = rw (h .outcome, h .echoed, h .ppp, h .replies, contents-made (turn .sent)) refl
 
 -- where the phase step would do nothing, there is nothing to write
-pub answered-rested : (l : PPPoS) (tx rx : List ℕ) → restsOf (l .ppp) ≡ true → polled Idle l tx rx ≡ answered l (l .«frame_reader») (pollOf (l .ppp)) tx rx
-unfolding answered frames
+pub answered-rested : (l : PPPoS) (tx rx : List ℕ) → restsOf (l .ppp) ≡ true → polled Idle l tx rx ≡ answeredPoll l (l .«frame_reader») (pollOf (l .ppp)) tx rx
+unfolding answeredPoll frames
 answered-rested l tx rx e = rw (rests-still (l .ppp) e, le-leb 0 (length tx) (omega arith)) refl
 
 pub turns-short : {turn : PppTurn} {o : negotiated.Outcome} {e : Bool} {p : Ppp} {rs : Replies} {n : ℕ}
-    → Turns turn o e p rs → sending.Sends n (turn .sent) → Short rs
-turns-short {turn} h s = rw (h .replies) (replies-short (turn .sent) (s .short))
+    → Turns turn o e p rs → sending.Sends n (turn .sent) → n ≤ maxReplies → Short rs
+turns-short {turn} h s few = rw (h .replies) (short-made (turn .sent) (omega (arith, s .few)) (s .short))
 
 -- ---- what is received
 
@@ -114,7 +102,7 @@ module _ (l : PPPoS) (r : FrameReader) (to : ℕ) (tx rx pkt : List ℕ) where
   unfolding packetPoll
   packet-ip e = rw e refl
 
-  pub packet-turn : isIp pkt ≡ false → packetPoll l r to tx rx pkt ≡ answered l r (turnOf (l .ppp) pkt) tx rx
+  pub packet-turn : isIp pkt ≡ false → packetPoll l r to tx rx pkt ≡ answeredPoll l r (turnOf (l .ppp) pkt) tx rx
   unfolding packetPoll
   packet-turn e = rw e refl
 
@@ -152,7 +140,7 @@ got-packet {r} {r′} {g} {from} {to} h e =
 abbrev byGot : PPPoS → List ℕ → List ℕ → FrameReader → Got → Poll
 byGot l tx rx r (Packet from to) = packetPoll l r to tx rx (take (to - 1) (drop 1 rx))
 byGot l tx rx r (Refused why) = declined (Framing why) (linkOf r (l .ppp)) tx rx
-byGot l tx rx r Nothing = answered l (l .«frame_reader») (pollOf (l .ppp)) tx rx
+byGot l tx rx r Nothing = answeredPoll l (l .«frame_reader») (pollOf (l .ppp)) tx rx
 
 module _ (l : PPPoS) (tx rx : List ℕ) where
   pub poll-short : length rx < l .«frame_reader» .len → pollLink l tx rx ≡ declined (Framing BufferShort) l tx rx
@@ -174,7 +162,7 @@ module _ (l : PPPoS) (tx rx : List ℕ) where
         let k : g ≡ Nothing = got-is h ∙ rw t refl in
         rw (le-ltb (length rx) (r .len) room, t, k) refl)
 
-    pub poll-nothing : g ≡ Nothing → pollLink l tx rx ≡ answered l (l .«frame_reader») (pollOf (l .ppp)) tx rx
+    pub poll-nothing : g ≡ Nothing → pollLink l tx rx ≡ answeredPoll l (l .«frame_reader») (pollOf (l .ppp)) tx rx
     poll-nothing e = poll-got ∙ ap (byGot l tx rx next) e
 
     pub poll-refused : {why : framing.Refusal} → g ≡ Refused why → pollLink l tx rx ≡ declined (Framing why) (linkOf next (l .ppp)) tx rx
@@ -183,13 +171,13 @@ module _ (l : PPPoS) (tx rx : List ℕ) where
     pub poll-packet : {from to : ℕ} → g ≡ Packet from to → pollLink l tx rx ≡ packetPoll l next to tx rx (take (to - 1) (drop 1 rx))
     poll-packet e = poll-got ∙ ap (byGot l tx rx next) e
 
--- ---- a transmit buffer of 795 bytes always suffices
+-- ---- a transmit buffer that always suffices
 
 abbrev pub NotFull : Poll → Type 0
 NotFull p = p .action ≡ Declined FramesFull → ⊥
 
-answered-room : (l : PPPoS) (r : FrameReader) (t : PppTurn) (tx rx : List ℕ) → length (frames (t .sent)) ≤ length tx → NotFull (answered l r t tx rx)
-unfolding answered
+answered-room : (l : PPPoS) (r : FrameReader) (t : PppTurn) (tx rx : List ℕ) → length (frames (t .sent)) ≤ length tx → NotFull (answeredPoll l r t tx rx)
+unfolding answeredPoll
 answered-room l r t tx rx h = go (t .outcome)
   where
     go : (o : negotiated.Outcome) → NotFull (byOutcome o l r t tx rx)
@@ -198,7 +186,7 @@ answered-room l r t tx rx h = go (t .outcome)
         (cond-all (λ (a : PPPoSAction). a ≡ Declined FramesFull → ⊥) (eqb (length (frames (t .sent))) 0) (λ e. apart (cc)) (λ e. apart (cc)))
     go (negotiated.the-variants.Refused why) = λ e. apart (cc)
 
-pub poll-room : (l : PPPoS) (tx rx : List ℕ) → 795 ≤ length tx → NotFull (pollLink l tx rx)
+pub poll-room : (l : PPPoS) (tx rx : List ℕ) → alwaysEnough ≤ length tx → NotFull (pollLink l tx rx)
 unfolding pollLink packetPoll
 poll-room l tx rx h =
     let r = l .«frame_reader» in

@@ -12,13 +12,14 @@ use Rattle.framing.specs.declared.frame_reader.FrameReader.{FrameReader}
 use Rattle.framing.specs.declared.refusal.Refusal.the-variants as framing
 use Rattle.framing.specs.declared.refusal.Outcome as framed
 use Rattle.options.specs.Wire.{protocolIn}
+use Rattle.negotiation.specs.Replies.{contents}
 use Rattle.phases.specs.Phases.{PppTurn, pollOf, turnOf, openOf, newOf}
 use Rattle.phases.specs.declared.ppp.Ppp.{Ppp}
 use Rattle.phases.specs.declared.ppp.Turned.{Turned}
 use Rattle.options.specs.declared.refusal.Outcome as negotiation
 use Rattle.options.specs.Refusal as refusals
 use Rattle.link.specs.Refusal.{numberOf, valuesOf, outcomeNumber}
-use Rattle.link.specs.Frames.{frames, replies}
+use Rattle.link.specs.Frames.{frames}
 use Rattle.link.specs.declared.refusal.Refusal.{Refusal}
 use Rattle.link.specs.declared.refusal.Refusal.the-variants.{Framing, Negotiation, FramesFull}
 use Rattle.link.specs.declared.refusal.Outcome.{Outcome}
@@ -111,25 +112,15 @@ abbrev pub byOutcome : negotiation.Outcome → PPPoS → FrameReader → PppTurn
 byOutcome negotiation.the-variants.Done l r t tx rx = written l r t tx rx
 byOutcome (negotiation.the-variants.Refused why) l r t tx rx = declined (Negotiation why) (linkOf r (l .ppp)) tx rx
 
-unfoldable pub answered : PPPoS → FrameReader → PppTurn → List ℕ → List ℕ → Poll
-answered l r t tx rx = byOutcome (t .outcome) l r t tx rx
+unfoldable pub answeredPoll : PPPoS → FrameReader → PppTurn → List ℕ → List ℕ → Poll
+answeredPoll l r t tx rx = byOutcome (t .outcome) l r t tx rx
 
--- the same of a turn as the code holds it
+-- a turn and a poll as the code holds them
+abbrev pub asTurn : Turned → PppTurn
+asTurn t = record { outcome = t .outcome; echoed = t .echoed; ppp = t .ppp; sent = contents (t .replies) }
+
 abbrev pub asPoll : Polled → List ℕ → List ℕ → Poll
 asPoll p tx rx = record { action = p .action; link = p .link; tx = tx; rx = rx }
-
-unfoldable pub writtenAs : PPPoS → FrameReader → Turned → List ℕ → List ℕ → Poll
-writtenAs l r t tx rx =
-    cond (leb (length (replies (t .replies))) (length tx))
-    (record { action = sent (length (replies (t .replies))); link = linkOf r (t .ppp); tx = over (replies (t .replies)) tx; rx = echoedIn (t .echoed) rx })
-    (declined FramesFull l tx rx)
-
-abbrev pub repliedBy : negotiation.Outcome → PPPoS → FrameReader → Turned → List ℕ → List ℕ → Poll
-repliedBy negotiation.the-variants.Done l r t tx rx = writtenAs l r t tx rx
-repliedBy (negotiation.the-variants.Refused why) l r t tx rx = declined (Negotiation why) (linkOf r (l .ppp)) tx rx
-
-unfoldable pub replied : PPPoS → FrameReader → Turned → List ℕ → List ℕ → Poll
-replied l r t tx rx = repliedBy (t .outcome) l r t tx rx
 
 -- an IPv4 packet is handed out
 abbrev pub isIp : List ℕ → Bool
@@ -140,7 +131,7 @@ unfoldable pub packetPoll : PPPoS → FrameReader → ℕ → List ℕ → List 
 packetPoll l r to tx rx pkt =
     cond (isIp pkt)
     (record { action = Received 3 to; link = linkOf r (l .ppp); tx = tx; rx = rx })
-    (answered l r (turnOf (l .ppp) pkt) tx rx)
+    (answeredPoll l r (turnOf (l .ppp) pkt) tx rx)
 
 unfoldable pub pollLink : PPPoS → List ℕ → List ℕ → Poll
 pollLink l tx rx =
@@ -150,7 +141,7 @@ pollLink l tx rx =
     (cond (ltb (l .«frame_reader» .len) 3)
     (declined (Framing framing.FrameShort) (linkOf (fetched (l .«frame_reader»)) (l .ppp)) tx rx)
     (packetPoll l (fetched (l .«frame_reader»)) (l .«frame_reader» .len - 2) tx rx (packetOf (heldBy l rx))))
-    (answered l (l .«frame_reader») (pollOf (l .ppp)) tx rx))
+    (answeredPoll l (l .«frame_reader») (pollOf (l .ppp)) tx rx))
 
 abbrev pub actionNumber : PPPoSAction → ℕ
 actionNumber Idle = 0

@@ -4,9 +4,9 @@ ghost use Prim.Native.Nat.{_-_, _≤_, _<_};
 ghost use lib.ListN.{length, take, drop};
 ghost use Rattle.phases.specs.Phases.{statusOf};
 ghost use Rattle.link.specs.Choices.{choicesOf};
-ghost use Rattle.link.specs.Frames.{Short};
-ghost use Rattle.link.specs.Link.{linkOf, outcomeOf, framingOutcome, Makes, Opens, Consumes, echoedIn, asPoll, writtenAs, replied, isIp, packetPoll, pollLink, Polls, Sends, HandsOut};
+ghost use Rattle.link.specs.Link.{linkOf, outcomeOf, framingOutcome, Makes, Opens, Consumes, echoedIn, asPoll, isIp, packetPoll, pollLink, Polls, Sends, HandsOut, written, answeredPoll, asTurn};
 use crate::choices::Choices;
+ghost use Rattle.negotiation.specs.Replies.{Short};
 use crate::frames::fits;
 use crate::frames::put_replies;
 use crate::refusal::Outcome;
@@ -185,7 +185,7 @@ impl PPPoS {
     // The frames of a turn, all of them or none.
     fn write(self, r: FrameReader, t: Turned, tx: &mut [u8], rx: &mut [u8]) -> Polled
         requires { ⌜ Short (t .replies) ⌝ }
-        ensures { λ p. ⌜ asPoll p (now (tx .exit)) (now (rx .exit)) ≡ writtenAs self r t (now (tx .entry)) (now (rx .entry)) ⌝ }
+        ensures { λ p. ⌜ asPoll p (now (tx .exit)) (now (rx .exit)) ≡ written self r (asTurn t) (now (tx .entry)) (now (rx .entry)) ⌝ }
     {
         let rs = t.replies;
         if !fits(tx.len(), rs) {
@@ -213,7 +213,7 @@ impl PPPoS {
     // What a turn of negotiation comes to; a refused packet is dropped.
     fn answer(self, r: FrameReader, t: Turned, tx: &mut [u8], rx: &mut [u8]) -> Polled
         requires { ⌜ Short (t .replies) ⌝ }
-        ensures { λ p. ⌜ asPoll p (now (tx .exit)) (now (rx .exit)) ≡ replied self r t (now (tx .entry)) (now (rx .entry)) ⌝ }
+        ensures { λ p. ⌜ asPoll p (now (tx .exit)) (now (rx .exit)) ≡ answeredPoll self r (asTurn t) (now (tx .entry)) (now (rx .entry)) ⌝ }
     {
         let o = t.outcome;
         if let options::refusal::Outcome::Refused(why) = o {

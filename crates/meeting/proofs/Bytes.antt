@@ -16,7 +16,7 @@ use Rattle.phases.specs.Sound.{Calm}
 use Rattle.phases.specs.declared.ppp.Ppp.{Ppp}
 use Rattle.options.specs.declared.refusal.Outcome.the-variants as negotiation
 use Rattle.link.specs.Refusal.{outcomeNumber}
-use Rattle.link.specs.Frames.{frames}
+use Rattle.link.specs.Frames.{frames, alwaysEnough}
 use Rattle.link.specs.Link.{linkOf, heldBy, sent, isIp, packetPoll, pollLink}
 use Rattle.link.specs.declared.refusal.Outcome.{Outcome}
 use Rattle.link.specs.declared.pppos.PPPoS.{PPPoS}
@@ -94,12 +94,12 @@ abbrev pub fine : End → Outcome → ℕ → List ℕ → Answer
 fine e o n w = record { now = e; used = n; written = w; first = outcomeNumber o; polled = 0 }
 
 -- all frames are written from the front of the transmit buffer
-pub behind-turned : (l : PPPoS) (tx rx : List ℕ) (h : l .«frame_reader» .len ≤ length rx) (room : 795 ≤ length tx) (o : Outcome) (n : ℕ) (r : FrameReader) (t : PppTurn) → t .echoed ≡ false
+pub behind-turned : (l : PPPoS) (tx rx : List ℕ) (h : l .«frame_reader» .len ≤ length rx) (room : alwaysEnough ≤ length tx) (o : Outcome) (n : ℕ) (r : FrameReader) (t : PppTurn) → t .echoed ≡ false
     → behind o n (hearing.turned l tx rx h room r t) ≡ fine (endOf (linkOf r (t .ppp)) rx) o n (frames (t .sent))
 behind-turned l tx rx h room o n r t e =
     rw (e, sent-count (length (frames (t .sent))) .0, sent-count (length (frames (t .sent))) .1, take-append-seam) refl
 
-module _ (e : End) (tx : List ℕ) (room : 795 ≤ length tx) (o : Outcome) (n : ℕ) where
+module _ (e : End) (tx : List ℕ) (room : alwaysEnough ≤ length tx) (o : Outcome) (n : ℕ) where
   -- where nothing waits a poll leaves all as it is
   pub rests : Rest e → behind o n (pollLink (e .link) tx (e .rx)) ≡ fine e o n []
   unfolding frames

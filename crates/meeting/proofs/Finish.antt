@@ -13,7 +13,7 @@ use Rattle.framing.specs.Rfc1662.{frame}
 use Rattle.framing.proofs.Unstuffing.{frame-narrow}
 use Rattle.meeting.proofs.Says.{Self, Small, heard}
 use Rattle.phases.specs.declared.ppp.Ppp.{Ppp}
-use Rattle.link.specs.Frames.{everyByte, frames}
+use Rattle.link.specs.Frames.{everyByte, frames, alwaysEnough}
 use Rattle.meeting.specs.Calls.{End, Net, Exchange, start, atA, atB, steps}
 use Rattle.meeting.specs.Statement.{AllWritten, Learned, Met, Finishes}
 use Rattle.meeting.proofs.Diamond.{ended, continues}
@@ -74,7 +74,7 @@ record More {z m : Net} (r : Exchange z m) : Type 0 where
   one : steps r + 1 ≤ steps run
 
 -- all that is on a wire is handed in, unless both are empty
-more : {z m : Net} (r : Exchange z m) (tx : List ℕ) → 795 ≤ length tx → ((m .toA ≡ []) × (m .toB ≡ [])) ⊎ More r
+more : {z m : Net} (r : Exchange z m) (tx : List ℕ) → alwaysEnough ≤ length tx → ((m .toA ≡ []) × (m .toB ≡ [])) ⊎ More r
 unfolding steps
 more {m = m} r tx room = go (m .toA) (m .toB) refl refl
   where
@@ -87,7 +87,7 @@ none : (l : List ℕ) → length l ≤ 0 → l ≡ []
 none [] h = refl
 none (x ∷ l) h = absurd (omega arith)
 
-module _ {x y : End} {z : Net} (tx : List ℕ) (room : 795 ≤ length tx) (w : Way (Both (self x) (self y)) z) (h : Spent 0 z) where
+module _ {x y : End} {z : Net} (tx : List ℕ) (room : alwaysEnough ≤ length tx) (w : Way (Both (self x) (self y)) z) (h : Spent 0 z) where
   finished : {m : Net} → Exchange z m → m .toA ≡ [] → m .toB ≡ [] → Finishes x y z
   finished {m} r e f =
       let q = ended (rw (e, f) at (along w r)) in

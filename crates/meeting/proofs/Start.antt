@@ -12,7 +12,7 @@ use Rattle.meeting.proofs.Says as moves
 use Rattle.meeting.proofs.Says.{Self, selfOf, hello}
 use Rattle.negotiation.specs.declared.states.State.the-variants.{Closed}
 use Rattle.meeting.proofs.Moves.{begins}
-use Rattle.link.specs.Frames.{frames}
+use Rattle.link.specs.Frames.{frames, alwaysEnough}
 use Rattle.link.specs.Link.{linkOf, outcomeOf, openLink}
 use Rattle.link.specs.declared.refusal.Outcome.the-variants.{Done}
 use Rattle.link.proofs.Hearing.{poll-waits}
@@ -38,7 +38,7 @@ waits h = record { idle = record { between = h .between; clear = h .no-escape; e
 abbrev pub Opens : End → List ℕ → Type 0
 Opens x tx = opens x tx ≡ fine (joined (moves.begun (self x) (rejected1 x) (rejected2 x)) (hold x)) Done 0 (frames (hello (self x) ∷ []))
 
-pub opened : {x : End} → Ready x → x .link .ppp .lcp .state ≡ Closed → (tx : List ℕ) → 795 ≤ length tx → Opens x tx
+pub opened : {x : End} → Ready x → x .link .ppp .lcp .state ≡ Closed → (tx : List ℕ) → alwaysEnough ≤ length tx → Opens x tx
 unfolding opens
 opened {x} h closed tx room =
     let l = x .link in

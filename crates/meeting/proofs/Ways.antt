@@ -11,7 +11,7 @@ use Rattle.laws.proofs.Cases.{by-test}
 use Rattle.framing.specs.Reader.{step, full, Fed, fed}
 use Rattle.framing.proofs.Reader.{fed-nil, fed-step, fed-stop, fed-left, fed-left-le, consumed-fed}
 use Rattle.phases.specs.declared.ppp.Ppp.{Ppp}
-use Rattle.link.specs.Frames.{frames}
+use Rattle.link.specs.Frames.{frames, alwaysEnough}
 use Rattle.link.specs.Link.{linkOf, pollLink}
 use Rattle.link.specs.declared.refusal.Outcome.{Outcome}
 use Rattle.link.specs.declared.refusal.Outcome.the-variants.{Done}
@@ -32,7 +32,7 @@ record Served (Q : End → End → List ℕ → List ℕ → Type 0) (b : End) (
   polled : got .polled ≡ 0
   framed : Framed (got .written)
 
-module _ {Q : End → End → List ℕ → List ℕ → Type 0} (tx : List ℕ) (room : 795 ≤ length tx) (o : Outcome) (n : ℕ) where
+module _ {Q : End → End → List ℕ → List ℕ → Type 0} (tx : List ℕ) (room : alwaysEnough ≤ length tx) (o : Outcome) (n : ℕ) where
   served : (c r : List ℕ) {a b : End} {v f g : List ℕ} → Ends Q a b (c ++ r) v f g
       → Served Q b r v f g (fed (hold a) c .left) (after (fed (hold a) c) (a .link .ppp) tx o n)
   unfolding frames
@@ -61,7 +61,7 @@ some : (e : End) (c : List ℕ) → Rest e → oneUnlessEmpty c ≤ length c - l
 some e [] h = omega arith
 some e (x ∷ c) h = rw (fed-step (hold e) x c (h .empty)) (omega (arith, fed-left-le (step (hold e) x) c))
 
-pub passed : {Q : End → End → List ℕ → List ℕ → Type 0} (tx c r : List ℕ) → 795 ≤ length tx → {a b : End} {v f g : List ℕ} → Ends Q a b (c ++ r) v f g
+pub passed : {Q : End → End → List ℕ → List ℕ → Type 0} (tx c r : List ℕ) → alwaysEnough ≤ length tx → {a b : End} {v f g : List ℕ} → Ends Q a b (c ++ r) v f g
     → Passed Q b c r v f g (takes a tx c)
 unfolding takes
 passed tx c r room {a} {v} {f} e =
@@ -83,11 +83,11 @@ abbrev pub Way : (End → End → List ℕ → List ℕ → Type 0) → Net → 
 Way Q n = Ends Q (n .a) (n .b) (n .toA) (n .toB) (n .fromA) (n .fromB)
 
 -- a call at the first end
-pub at-first : {Q : End → End → List ℕ → List ℕ → Type 0} (m : Net) → Way Q m → (tx c rest : List ℕ) → 795 ≤ length tx → m .toA ≡ c ++ rest
+pub at-first : {Q : End → End → List ℕ → List ℕ → Type 0} (m : Net) → Way Q m → (tx c rest : List ℕ) → alwaysEnough ≤ length tx → m .toA ≡ c ++ rest
     → Passed Q (m .b) c rest (m .toB) (m .fromA) (m .fromB) (takes (m .a) tx c)
 at-first m w tx c rest room e = passed tx c rest room (rw e at w)
 
-step-way : {Q : End → End → List ℕ → List ℕ → Type 0} (m : Net) → Way Q m → (tx c rest : List ℕ) → 795 ≤ length tx → m .toA ≡ c ++ rest
+step-way : {Q : End → End → List ℕ → List ℕ → Type 0} (m : Net) → Way Q m → (tx c rest : List ℕ) → alwaysEnough ≤ length tx → m .toA ≡ c ++ rest
     → Way Q (passedOn m (takes (m .a) tx c))
 step-way m w tx c rest room e = rw e (at-first m w tx c rest room e .way)
 
@@ -102,7 +102,7 @@ along w (atB {m = m} r tx c rest h e) = flipped (step-way (flip m) (flipped (alo
 abbrev pub Spent : ℕ → Net → Type 0
 Spent k m = k + length (m .toA) + length (m .toB) ≤ length (m .fromA) + length (m .fromB)
 
-step-spent : {Q : End → End → List ℕ → List ℕ → Type 0} (k : ℕ) (m : Net) → Way Q m → (tx c rest : List ℕ) → 795 ≤ length tx → m .toA ≡ c ++ rest → Spent k m
+step-spent : {Q : End → End → List ℕ → List ℕ → Type 0} (k : ℕ) (m : Net) → Way Q m → (tx c rest : List ℕ) → alwaysEnough ≤ length tx → m .toA ≡ c ++ rest → Spent k m
     → Spent (k + oneUnlessEmpty c) (passedOn m (takes (m .a) tx c))
 step-spent k m w tx c rest room e h =
     let p = at-first m w tx c rest room e in

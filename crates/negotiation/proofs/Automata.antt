@@ -18,7 +18,7 @@ use Rattle.negotiation.specs.declared.states.State.{State}
 use Rattle.options.specs.declared.wire.Packet.{Packet}
 use Rattle.negotiation.specs.declared.replies.Replies.{Replies}
 use Rattle.options.specs.Wire.{pktOf, lengthField}
-use Rattle.negotiation.specs.Replies.{repliesOf, added}
+use Rattle.negotiation.specs.Replies.{repliesOf, added, maxReplies}
 use Rattle.negotiation.specs.Messages.{nextId, requestBytes, replyBytes, termAckBytes, echoBytes}
 use Rattle.negotiation.specs.Automaton.{ackResends, afterAck, afterNack, isOpened, handled, refusedTurn, withState, stepped, requested, requestedIn, ackOf, afterReply, reqWith, afterNacked, nackWith, termAckOf, ignoredTurn, echoOf, actOf, handleOf}
 use Rattle.negotiation.proofs.Joining.{add-replies}
@@ -30,7 +30,7 @@ pub request-of : {g : OptionFsm} {s : Replies} {q : Packet} (f : OptionFsm) (r :
 request-of f r eg eq es = rw (es, eq, eg) refl
 
 -- the record of replies holds the packets sent
-pub requested-behind : (f : OptionFsm) (ps : List (List ℕ)) → length ps < 3 → requestedIn f (repliesOf ps) ≡ handled (requested f ps)
+pub requested-behind : (f : OptionFsm) (ps : List (List ℕ)) → length ps < maxReplies → requestedIn f (repliesOf ps) ≡ handled (requested f ps)
 unfolding requested
 requested-behind f ps h = rw (add-replies ps (requestBytes (f .proto) (nextId (f .id))) h) refl
 

@@ -1,11 +1,14 @@
-// Packets to send: each laid out whole, and up to three of them in order.
+// Packets to send: each laid out whole, and some of them in order.
 ghost use mathlib.Core.Path.{_≡_};
 ghost use mathlib.Core.List.{[]};
 ghost use Prim.Native.Nat.{_≤_, _<_};
 ghost use lib.ListN.{length};
 ghost use Rattle.options.specs.Wire.{pktOf, contentOf, Tidy, packetOf};
-ghost use Rattle.negotiation.specs.Replies.{repliesOf, added, joined};
+ghost use Rattle.negotiation.specs.Replies.{maxReplies, repliesOf, added, joined};
 use options::wire::Packet;
+
+// A received packet is answered by two packets at most, and a phase step sends one.
+pub const MAX_REPLIES: usize = 3;
 
 // A packet: protocol, code, id, Length, data.
 pub(crate) fn emit(protocol: u16, code: u8, id: u8, d: &[u8]) -> Packet
@@ -34,10 +37,10 @@ pub(crate) fn emit_packet(protocol: u16, code: u8, id: u8, b: Packet) -> Packet
     emit(protocol, code, id, &bytes[..n])
 }
 
-// Up to three packets to send, in order.
+// Packets to send, in order: the first `count`.
 pub struct Replies {
     pub count: usize,
-    pub packets: [Packet; 3],
+    pub packets: [Packet; MAX_REPLIES],
 }
 
 impl Replies {
@@ -47,12 +50,12 @@ impl Replies {
         let p = Packet::blank();
         Replies {
             count: 0,
-            packets: [p; 3],
+            packets: [p; MAX_REPLIES],
         }
     }
 
     pub(crate) fn add(self, p: Packet) -> Self
-        requires { ⌜ self .count < 3 ⌝ }
+        requires { ⌜ self .count < maxReplies ⌝ }
         ensures { λ r. ⌜ r ≡ added self p ⌝ }
     {
         let mut r = self;
@@ -69,7 +72,7 @@ impl Replies {
         if b.count == 0 {
             return self;
         }
-        if 2 < self.count {
+        if MAX_REPLIES <= self.count {
             return self;
         }
         let ps = b.packets;

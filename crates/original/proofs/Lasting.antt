@@ -29,7 +29,7 @@ use Rattle.phases.specs.declared.ppp.Phase.{Phase}
 use Rattle.phases.specs.declared.ppp.Phase.the-variants.{Dead, Establish, Auth, Network, Open}
 use Rattle.phases.specs.declared.ppp.Ppp.{Ppp}
 use Rattle.link.specs.Choices.{choicesOf, Plain}
-use Rattle.link.specs.Link.{linkOf, heldBy, isIp, pollLink}
+use Rattle.link.specs.Link.{linkOf, heldBy, isIp, pollLink, answeredPoll}
 use Rattle.link.specs.declared.choices.Choices.{Choices}
 use Rattle.link.specs.declared.pppos.PPPoS.{PPPoS}
 use Rattle.link.proofs.Leaving.{poll-leaves}

@@ -59,8 +59,8 @@ module _ (l : PPPoS) (tx rx : List ℕ) (r : FrameReader) (q : Ppp) (held : Held
 
   -- the phase step from P sends and leaves what ours does
   ran : (P : ppp.Ppp) (s : ppp.Polled) → ppp.pollPpp P ≡ returns s → opening.Steps s (phaseOf q)
-      → SamePoll l tx rx (theirs.pollRest (record { frameReader = viewReader r; ppp = P }) w (ours.echoedIn e rx)) (ours.answered l r turn tx rx)
-  unfolding theirs.pollRest ours.answered
+      → SamePoll l tx rx (theirs.pollRest (record { frameReader = viewReader r; ppp = P }) w (ours.echoedIn e rx)) (ours.answeredPoll l r turn tx rx)
+  unfolding theirs.pollRest ours.answeredPoll
   ran P s run steps =
       let f = frames pre in
       let g = frames (phaseOf q .sent) in
@@ -78,10 +78,10 @@ module _ (l : PPPoS) (tx rx : List ℕ) (r : FrameReader) (q : Ppp) (held : Held
 
   -- the rest of a poll, where the original has come to it
   pub rest-same : theirs.handleInput (viewLink l) tx rx ≡ returns (theirs.goesOn (viewLink (ours.linkOf r q)) w (ours.echoedIn e rx))
-      → SamePoll l tx rx (theirs.pollRest (viewLink (ours.linkOf r q)) w (ours.echoedIn e rx)) (ours.answered l r turn tx rx)
+      → SamePoll l tx rx (theirs.pollRest (viewLink (ours.linkOf r q)) w (ours.echoedIn e rx)) (ours.answeredPoll l r turn tx rx)
   rest-same come = go (ppp.pollPpp (viewPpp q)) refl (phase-same q held)
     where
       go : (x : Run ppp.Polled) → ppp.pollPpp (viewPpp q) ≡ x → opening.SamePhase q x
-          → SamePoll l tx rx (theirs.pollRest (viewLink (ours.linkOf r q)) w (ours.echoedIn e rx)) (ours.answered l r turn tx rx)
+          → SamePoll l tx rx (theirs.pollRest (viewLink (ours.linkOf r q)) w (ours.echoedIn e rx)) (ours.answeredPoll l r turn tx rx)
       go x k (opening.same {s} steps) = ran (viewPpp q) s k steps
       go x k (opening.asserts {place} unready a {s} run steps) = rw (rest-stops (viewLink (ours.linkOf r q)) w (ours.echoedIn e rx) k) (opens (λ k h. unready (ready k h)) a (viewLink (ours.linkOf r q)) w (ours.echoedIn e rx) come (ran (asIfClosed a (viewPpp q)) s run steps))

@@ -64,8 +64,8 @@ other-protocols l w from to rx pkt n other =
 
 -- what our packet's poll comes to where the packet is refused
 pub refused-is : (l : PPPoS) (r : FrameReader) (tx rx pkt : List ℕ) {why : Refusal} → receivedOf (l .ppp) pkt .outcome ≡ Refused why
-    → ours.answered l r (turnOf (l .ppp) pkt) tx rx ≡ ours.declined (Negotiation why) (ours.linkOf r (l .ppp)) tx rx
-unfolding ours.answered
+    → ours.answeredPoll l r (turnOf (l .ppp) pkt) tx rx ≡ ours.declined (Negotiation why) (ours.linkOf r (l .ppp)) tx rx
+unfolding ours.answeredPoll
 refused-is l r tx rx pkt e = rw (turn-refused (l .ppp) pkt e) refl
 
 module _ (l : PPPoS) (tx rx : List ℕ) (held : received.Held (l .ppp)) (bytes : Bytes rx) (crate : l .«frame_reader» .reading ≡ Crate) where
@@ -85,7 +85,7 @@ module _ (l : PPPoS) (tx rx : List ℕ) (held : received.Held (l .ppp)) (bytes :
     t = receivedOf (l .ppp) pkt
 
     abbrev Goal : Type 0
-    Goal = SamePoll l tx rx (theirs.poll (viewLink l) tx rx) (ours.answered l next (turnOf (l .ppp) pkt) tx rx)
+    Goal = SamePoll l tx rx (theirs.poll (viewLink l) tx rx) (ours.answeredPoll l next (turnOf (l .ppp) pkt) tx rx)
 
     abbrev f : List ℕ
     f = frames (t .sent)
@@ -102,7 +102,7 @@ module _ (l : PPPoS) (tx rx : List ℕ) (held : received.Held (l .ppp)) (bytes :
       -- the replies, then the rest
       replies : r .ppp ≡ viewPpp (t .ppp) → received.Held (t .ppp) → t .outcome ≡ Done
           → r .pkt ≡ cond (t .echoed) (set pkt 2 10) pkt → (t .echoed ≡ true → 2 < length pkt) → Carried (r .tx) (t .sent) → Goal
-      unfolding ours.answered
+      unfolding ours.answeredPoll
       replies a h o d k c =
           let wrote-all = rw zero-add at (transmit-all tx 0 0 c (received-sends (l .ppp) pkt .short) (omega arith)) in
           by-le (length f) (length tx)

@@ -4,6 +4,7 @@ use mathlib.Core.Path.{_≡_, refl, ap, sym, _∙_}
 use mathlib.Core.Bool.{true}
 use mathlib.Core.List.{List, _++_, append-nil}
 use Prim.Native.Nat.{ℕ}
+use native.Mathlib.Omega.{arith}
 use lib.Dec.{ltb, eqb}
 use lib.ListN.{length}
 use Rattle.laws.proofs.Cases.{cond-all}
@@ -15,7 +16,7 @@ use Rattle.options.specs.declared.lcp.AuthType.the-variants as auth
 use Rattle.negotiation.specs.declared.replies.Replies.{Replies}
 use Rattle.options.specs.Refusal.{isDone}
 use Rattle.options.specs.Wire.{protocolIn}
-use Rattle.negotiation.specs.Replies.{joined}
+use Rattle.negotiation.specs.Replies.{maxReplies, joined}
 use Rattle.negotiation.specs.Automaton.{isClosed, isOpened}
 use Rattle.negotiation.specs.Pap.{isPapOpened}
 use Rattle.negotiation.proofs.Joining.{join-replies}
@@ -83,12 +84,12 @@ phase-sends p = by-phase-sends (p .phase) p
 pub poll-sends : (p : Ppp) → Sends 1 (pollOf p .sent)
 poll-sends = phase-sends
 
-pub turn-sends : (p : Ppp) (pkt : List ℕ) → Sends 3 (turnOf p pkt .sent)
+pub turn-sends : (p : Ppp) (pkt : List ℕ) → Sends maxReplies (turnOf p pkt .sent)
 unfolding turnOf
 turn-sends p pkt =
     let t = receivedOf p pkt in
-    cond-all (λ (x : PppTurn). Sends 3 (x .sent)) (isDone (t .outcome))
-    (sends-both (t .sent) (phaseOf (t .ppp) .sent) (received-sends p pkt) (phase-sends (t .ppp))) (sends-none 3)
+    cond-all (λ (x : PppTurn). Sends maxReplies (x .sent)) (isDone (t .outcome))
+    (sends-both (t .sent) (phaseOf (t .ppp) .sent) (received-sends p pkt) (phase-sends (t .ppp))) (sends-none maxReplies)
 
 -- ---- a turn as the code puts it together
 
@@ -109,4 +110,4 @@ module _ (p : Ppp) (pkt : List ℕ) {t : Turned} (et : t ≡ turnedAs (receivedO
   turns-done {s} eo es er =
       let e : s ≡ steppedAs (phaseOf (receivedOf p pkt .ppp)) = es ∙ ap (λ (x : Turned). steppedAs (phaseOf (x .ppp))) et in
       rw (turn-done p pkt (sym (ap (λ (x : Turned). x .outcome) et) ∙ eo), er, e, et)
-      (record { outcome = refl; echoed = refl; ppp = refl; replies = join-replies (receivedOf p pkt .sent) _ (received-sends p pkt .few) (phase-sends _ .few) })
+      (record { outcome = refl; echoed = refl; ppp = refl; replies = join-replies (receivedOf p pkt .sent) _ (omega (arith, received-sends p pkt .few)) (phase-sends _ .few) })

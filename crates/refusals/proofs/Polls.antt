@@ -18,15 +18,15 @@ use Rattle.options.specs.Refusal.{numberOf, outcomeNumber}
 use Rattle.phases.specs.Phases.{PppTurn, receivedOf, pollOf, turnOf}
 use Rattle.options.specs.declared.refusal.Outcome.{Outcome}
 use Rattle.options.specs.declared.refusal.Outcome.the-variants.{Done, Refused}
-use Rattle.options.specs.declared.refusal.Refusal.{Refusal}
 use Rattle.phases.proofs.Phasing.{turn-refused, turn-done}
 use Rattle.link.specs.Frames.{frames}
-use Rattle.link.specs.Link.{heldBy, linkOf, Poll, declined, written, answered, isIp, packetPoll, pollLink, Polls, actionNumber, transmitted}
+use Rattle.link.specs.Link.{heldBy, linkOf, Poll, declined, written, answeredPoll, isIp, packetPoll, pollLink, Polls, actionNumber, transmitted}
 use Rattle.refusals.specs.Table.{packetIn, Kept, linkMovedOn, pollRows}
 use Rattle.link.specs.declared.refusal.Refusal.the-variants.{Negotiation}
 use Rattle.link.specs.declared.pppos.PPPoS.{PPPoS}
 use Rattle.link.specs.declared.pppos.PPPoSAction.{PPPoSAction}
 use Rattle.link.specs.declared.pppos.PPPoSAction.the-variants.{Received}
+use Rattle.link.proofs.Polling.{answered-done, answered-refused}
 use Rattle.link.proofs.Hearing.{sent-count, ip-received}
 use Rattle.refusals.proofs.Rows.{First}
 use Rattle.refusals.proofs.FramingCalls.{complete-is}
@@ -88,15 +88,6 @@ module _ (l : PPPoS) (tx rx : List ℕ) where
     first-refused : (m : ℕ) → Got → numberFrom (l .ppp) pkt ≡ m → (m ≡ 0 → ⊥) → Dropped (keptOf q) → First m (keptOf q) (pollRows l tx rx out)
     first-refused m g e z d = inr (held, packet-refused (λ c. Got × c) Dropped (l .ppp) pkt (drop 7 (pollRows l tx rx out)) (keptOf q) (λ c h. h .1) (λ c x. (g, x)) d m e z)
 
-  module _ (r : FrameReader) (t : PppTurn) where
-    answered-done : t .outcome ≡ Done → answered l r t tx rx ≡ written l r t tx rx
-    unfolding answered
-    answered-done e = rw e refl
-
-    answered-refused : {why : Refusal} → t .outcome ≡ Refused why → answered l r t tx rx ≡ declined (Negotiation why) (linkOf r (l .ppp)) tx rx
-    unfolding answered
-    answered-refused e = rw e refl
-
   module _ (held : length rx < l .«frame_reader» .len → ⊥) where
     -- a turn of negotiation that refuses nothing
     right-written : (r : FrameReader) (t : PppTurn) → (Got → numberFrom (l .ppp) pkt ≡ 0) → Right l tx rx (frames (t .sent)) (written l r t tx rx)
@@ -106,16 +97,16 @@ module _ (l : PPPoS) (tx rx : List ℕ) where
 
     -- the packet, by what negotiation says of it
     right-turn : Got → (o : Outcome) → receivedOf (l .ppp) pkt .outcome ≡ o
-        → Right l tx rx (frames (turnOf (l .ppp) pkt .sent)) (answered l (fetched (l .«frame_reader»)) (turnOf (l .ppp) pkt) tx rx)
+        → Right l tx rx (frames (turnOf (l .ppp) pkt .sent)) (answeredPoll l (fetched (l .«frame_reader»)) (turnOf (l .ppp) pkt) tx rx)
     right-turn g Done e =
         let r = fetched (l .«frame_reader») in
         let t = turnOf (l .ppp) pkt in
-        rw (answered-done r t (ap (λ (t : PppTurn). t .outcome) (turn-done (l .ppp) pkt e))) (right-written r t (λ _. ap outcomeNumber e))
+        rw (answered-done l r t tx rx (ap (λ (t : PppTurn). t .outcome) (turn-done (l .ppp) pkt e))) (right-written r t (λ _. ap outcomeNumber e))
     right-turn g (Refused why) e =
         let r = fetched (l .«frame_reader») in
         let t = turnOf (l .ppp) pkt in
         let n = ap outcomeNumber e in
-        rw (answered-refused r t (ap (λ (t : PppTurn). t .outcome) (turn-refused (l .ppp) pkt e)))
+        rw (answered-refused l r t tx rx (ap (λ (t : PppTurn). t .outcome) (turn-refused (l .ppp) pkt e)))
         (record {
           first =
               first-refused (frames (t .sent)) (declined (Negotiation why) (linkOf r (l .ppp)) tx rx) held (numberOf why) g n (refusal-some why)
@@ -136,7 +127,7 @@ module _ (l : PPPoS) (tx rx : List ℕ) where
         (λ e. rw e (right-turn g (receivedOf (l .ppp) pkt .outcome) refl))
 
   right : Right l tx rx (outOf l rx) (pollLink l tx rx)
-  unfolding pollLink answered
+  unfolding pollLink answeredPoll
   right =
       let r = l .«frame_reader» in
       let P = Right l tx rx (outOf l rx) in

@@ -3,13 +3,15 @@ use Prim.Native.Nat.{ℕ}
 use native.Mathlib.Omega.{arith}
 use lib.Dec.{leb}
 use borrow.Author.Tests.{le-leb}
-use Rattle.link.proofs.Sending.{replies-narrow}
+use Rattle.negotiation.specs.Replies.{contents}
+use Rattle.negotiation.proofs.Joining.{contents-few, contents-short}
+use Rattle.link.proofs.Sending.{frames-enough}
 use borrow.Author.Needs.{needs}
 use Rattle.link.proofs.frames.fits.Statement.{statement}
 use Rattle.link.proofs.frames.fits.Tie as tie
 
 returns : tie.Need-returns
-returns c = sym (le-leb _ (c .before .args .room) (omega (arith, replies-narrow (c .before .pre))))
+returns c = sym (le-leb _ (c .before .args .room) (omega (arith, frames-enough (contents (c .before .args .rs)) (contents-few (c .before .pre)) (contents-short (c .before .pre)))))
 
 replies-len-requires : tie.Need-replies-len-requires
 replies-len-requires c κs = search needs

@@ -1,73 +1,97 @@
+use mathlib.Core.Path.{_≡_, refl, ap, _∙_}
+use mathlib.Core.List.{List, []}
+use Prim.Native.Nat.{ℕ, _+_, _-_, _≤_, _<_}
 use native.Mathlib.Omega.{arith}
-use Prim.Native.Nat.{ℕ, _+_, _≤_}
-use mathlib.Core.List.{List, append-assoc}
-use Rattle.negotiation.specs.declared.replies.Replies.{Replies}
-use lib.Dec.{ltb}
-use lib.ListN.{length, length-append}
-use Rattle.link.specs.Frames.{reply, packetAt, replies}
-use Rattle.link.proofs.Sending.{laid-none, laid-next}
+use lib.ListN.{length, getD, length-map}
+use lib.Seq.{sets}
+use Rattle.laws.proofs.Stores.{sets-append}
+use Rattle.framing.specs.Rfc1662.{frame}
+use Rattle.options.specs.Wire.{contentOf}
+use Rattle.options.specs.declared.wire.Packet.{Packet}
+use Rattle.negotiation.specs.Replies.{maxReplies}
+use Rattle.negotiation.proofs.Joining.{short-at}
+use Rattle.link.specs.Frames.{everyByte}
+use Rattle.link.proofs.Sending.{framesFrom, frames-next, length-next, frames-end}
 use borrow.Author.Needs.{needs}
 use Rattle.link.proofs.frames.put_replies.Statement.{statement}
 use Rattle.link.proofs.frames.put_replies.Tie as tie
 
--- the frame of a reply
-abbrev nth : Replies → ℕ → List ℕ
-nth rs i = reply (ltb i (rs .count)) (packetAt rs i)
+abbrev left : ℕ → List Packet → ℕ → List ℕ
+left count ps i = framesFrom (record { count = count; packets = ps }) i
 
--- the room that the three take together
-room : (c : tie.Start)
-    → length (nth (c .args .rs) 0) + (length (nth (c .args .rs) 1) + length (nth (c .args .rs) 2)) ≤ length (c .args .tx .now)
-unfolding replies
-room c = rw (length-append, length-append) at (c .pre .1)
+abbrev Inv-loop : tie.InvT-loop
+Inv-loop tx₀ count ps at₀ i₀ tx at i =
+    (i ≤ count) × (length tx ≡ length tx₀) × (at + length (left count ps i) ≡ length (left count ps 0)) × (sets tx at (left count ps i) ≡ sets tx₀ 0 (left count ps 0))
 
-array-copy-out-a : tie.Need-array-copy-out-a
-array-copy-out-a c = search needs
+abbrev μ-loop : tie.MeasureT-loop
+μ-loop tx₀ count ps at₀ i₀ tx at i = count - i
 
-array-copy-out-b : tie.Need-array-copy-out-b
-array-copy-out-b c = search needs
+-- owning the replies tells how long their array is
+long : (c : tie.Start Inv-loop μ-loop) → length (c .args .rs .packets) ≡ maxReplies
+long c = rw length-map at (c .good .1 .0 .1 .1 .1 .0 .1 .0 .1)
 
-array-copy-out-c : tie.Need-array-copy-out-c
-array-copy-out-c c = search needs
+loop-holds : tie.Need-loop-holds Inv-loop μ-loop
+loop-holds c = (omega arith, refl, omega arith, refl)
 
-put-reply-requires : tie.Need-put-reply-requires
+mul-p : tie.Need-mul-p Inv-loop μ-loop
+mul-p c = omega (arith, c .before .before .before .before .pre .0 .few)
+
+array-copy-out-p : tie.Need-array-copy-out-p Inv-loop μ-loop
+array-copy-out-p c = omega (arith, c .before .before .before .before .pre .0 .few)
+
+put-reply-requires : tie.Need-put-reply-requires Inv-loop μ-loop
 put-reply-requires c κs =
     let s = c .before .before .before .before .before .before in
-    (s .pre .0 .first, omega (arith, room s))
+    let l = c .before .before .before .loop in
+    let d : Packet = record { len = 0; bytes = [] } in
+    let h : l .i < s .args .rs .count = omega arith in
+    let k : l .i < length (s .args .rs .packets) = omega (arith, long s, s .pre .0 .few) in
+    let e = length-next (s .args .rs) (l .i) d h k in
+    (short-at (s .args .rs) (l .i) d h k (s .pre .0), omega (arith, e, s .pre .1, l .inv .1, l .inv .2))
 
-put-reply-requires-2 : tie.Need-put-reply-requires-2
-put-reply-requires-2 c κs =
-    let s = c .before .before .before .before .before .before .before .before .before .before in
-    let p = c .before .before .before .put-reply in
-    (s .pre .0 .second, omega (arith, room s, p .ensures .0, p .kept .0))
+add-i : tie.Need-add-i Inv-loop μ-loop
+add-i c = search needs
 
-put-reply-requires-3 : tie.Need-put-reply-requires-3
-put-reply-requires-3 c κs =
-    let s = c .before .before .before .before .before .before .before .before .before .before .before .before .before .before in
-    let p = c .before .before .before .before .before .before .before .put-reply in
-    let q = c .before .before .before .put-reply2 in
-    (s .pre .0 .third, omega (arith, room s, p .ensures .0, q .ensures .0, p .kept .0, q .kept .0))
+loop-less : tie.Need-loop-less Inv-loop μ-loop
+loop-less c = search needs
 
-same-length : tie.Need-same-length
+loop-again : tie.Need-loop-again Inv-loop μ-loop
+loop-again c =
+    let s = c .before .before .before .before .before .before .before .before .before in
+    let l = c .before .before .before .before .before .before .loop in
+    let p = c .before .before .put-reply in
+    let d : Packet = record { len = 0; bytes = [] } in
+    let h : l .i < s .args .rs .count = omega arith in
+    let k : l .i < length (s .args .rs .packets) = omega (arith, long s, s .pre .0 .few) in
+    let f = frame everyByte (contentOf (getD (s .args .rs .packets) (l .i) d)) in
+    let g = framesFrom (s .args .rs) (l .i + 1) in
+    let e = frames-next (s .args .rs) (l .i) d h k in (
+      omega arith,
+      omega (arith, p .kept .0, l .inv .1),
+      omega (arith, length-next (s .args .rs) (l .i) d h k, p .ensures .0, l .inv .2),
+      rw (p .ensures .1, p .ensures .0) (sets-append f g (l .tx) (l .at) ∙ rw e at (l .inv .3)),
+    )
+
+same-length : tie.Need-same-length Inv-loop μ-loop
 same-length c = search needs
 
-returns : tie.Need-returns
-unfolding replies
+returns : tie.Need-returns Inv-loop μ-loop
 returns c =
-    let rs = c .before .before .before .before .before .before .before .before .before .before .before .before .before .before .before .before .before .args .rs in
-    let one = laid-next laid-none (nth rs 0) (c .before .before .before .before .before .before .before .before .before .before .put-reply .ensures) in
-    let two = laid-next one (nth rs 1) (c .before .before .before .before .before .before .put-reply2 .ensures) in
-    let all = laid-next two (nth rs 2) (c .before .before .put-reply3 .ensures) in
-    rw (← append-assoc) (all .count, all .bytes)
+    let e = frames-end (c .before .before .before .before .args .rs) (c .before .loop .i) (omega arith) in
+    (omega (arith, ap length e, c .before .loop .inv .2), rw e at (c .before .loop .inv .3))
 
 pub put-replies-spec : {M : Type 1} → statement M
 put-replies-spec =
     tie.close
     (tie.spec
-    array-copy-out-a
-    array-copy-out-b
-    array-copy-out-c
+    Inv-loop
+    μ-loop
+    loop-holds
+    mul-p
+    array-copy-out-p
     put-reply-requires
-    put-reply-requires-2
-    put-reply-requires-3
+    add-i
+    loop-less
+    loop-again
     same-length
     returns)

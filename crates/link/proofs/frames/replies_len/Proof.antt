@@ -1,48 +1,78 @@
+use mathlib.Core.Path.{_≡_, ap}
+use mathlib.Core.List.{List, []}
+use Prim.Native.Nat.{ℕ, _+_, _*_, _-_, _≤_, _<_}
 use native.Mathlib.Omega.{arith}
-use lib.ListN.{length-append}
-use Rattle.link.specs.Frames.{replies}
+use lib.ListN.{length, length-map}
+use Rattle.options.specs.declared.wire.Packet.{Packet}
+use Rattle.negotiation.specs.Replies.{maxReplies}
+use Rattle.negotiation.proofs.Joining.{short-at}
+use Rattle.link.specs.Frames.{maxFrame}
+use Rattle.link.proofs.Sending.{framesFrom, length-next, frames-end}
 use borrow.Author.Needs.{needs}
 use Rattle.link.proofs.frames.replies_len.Statement.{statement}
 use Rattle.link.proofs.frames.replies_len.Tie as tie
 
-array-copy-out-a : tie.Need-array-copy-out-a
-array-copy-out-a c = search needs
+abbrev left : ℕ → List Packet → ℕ → ℕ
+left count ps i = length (framesFrom (record { count = count; packets = ps }) i)
 
-array-copy-out-b : tie.Need-array-copy-out-b
-array-copy-out-b c = search needs
+abbrev Inv-loop : tie.InvT-loop
+Inv-loop count ps n₀ i₀ n i = (i ≤ count) × (n ≤ maxFrame * i) × (n + left count ps i ≡ left count ps 0)
 
-array-copy-out-c : tie.Need-array-copy-out-c
-array-copy-out-c c = search needs
+abbrev μ-loop : tie.MeasureT-loop
+μ-loop count ps n₀ i₀ n i = count - i
 
-reply-len-requires : tie.Need-reply-len-requires
-reply-len-requires c κs = c .before .before .before .before .pre .first
+-- owning the replies tells how long their array is
+long : (c : tie.Start Inv-loop μ-loop) → length (c .args .rs .packets) ≡ maxReplies
+long c = rw length-map at (c .good .0 .1 .1 .1 .0 .1 .0 .1)
 
-reply-len-requires-2 : tie.Need-reply-len-requires-2
-reply-len-requires-2 c κs = c .before .before .before .before .before .pre .second
+loop-holds : tie.Need-loop-holds Inv-loop μ-loop
+loop-holds c = (omega arith, omega arith, omega arith)
 
-add-result : tie.Need-add-result
-add-result c = search needs
+mul-p : tie.Need-mul-p Inv-loop μ-loop
+mul-p c = omega (arith, c .before .before .before .pre .few)
 
-reply-len-requires-3 : tie.Need-reply-len-requires-3
-reply-len-requires-3 c κs = c .before .before .before .before .before .before .pre .third
+array-copy-out-p : tie.Need-array-copy-out-p Inv-loop μ-loop
+array-copy-out-p c = omega (arith, c .before .before .before .pre .few)
 
-add-result-2 : tie.Need-add-result-2
-add-result-2 c = search needs
+reply-len-requires : tie.Need-reply-len-requires Inv-loop μ-loop
+reply-len-requires c κs =
+    let s = c .before .before .before .before in
+    short-at (s .args .rs) (c .before .before .loop .i) (record { len = 0; bytes = [] }) (omega arith) (omega (arith, long s, s .pre .few)) (s .pre)
 
-returns : tie.Need-returns
-unfolding replies
-returns c = rw (length-append, length-append) (omega (arith, c .before .before .reply-len .ensures, c .before .reply-len2 .ensures, c .reply-len3 .ensures))
+add-n : tie.Need-add-n Inv-loop μ-loop
+add-n c = omega (arith, c .before .before .before .before .before .pre .few, c .reply-len .ensures .1)
+
+add-i : tie.Need-add-i Inv-loop μ-loop
+add-i c = search needs
+
+loop-less : tie.Need-loop-less Inv-loop μ-loop
+loop-less c = search needs
+
+loop-again : tie.Need-loop-again Inv-loop μ-loop
+loop-again c =
+    let s = c .before .before .before .before .before in
+    let l = c .before .before .before .loop in
+    let h : l .i < s .args .rs .count = omega arith in
+    let e = length-next (s .args .rs) (l .i) (record { len = 0; bytes = [] }) h (omega (arith, long s, s .pre .few)) in
+    (omega arith, omega (arith, c .reply-len .ensures .1), omega (arith, e, c .reply-len .ensures .0, l .inv .2))
+
+returns : tie.Need-returns Inv-loop μ-loop
+returns c =
+    let e = ap length (frames-end (c .before .before .before .args .rs) (c .before .loop .i) (omega arith)) in
+    omega (arith, e, c .before .loop .inv .2)
 
 pub replies-len-spec : {M : Type 1} → statement M
 replies-len-spec =
     tie.close
     (tie.spec
-    array-copy-out-a
-    array-copy-out-b
-    array-copy-out-c
+    Inv-loop
+    μ-loop
+    loop-holds
+    mul-p
+    array-copy-out-p
     reply-len-requires
-    reply-len-requires-2
-    add-result
-    reply-len-requires-3
-    add-result-2
+    add-n
+    add-i
+    loop-less
+    loop-again
     returns)

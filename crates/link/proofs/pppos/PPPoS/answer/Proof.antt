@@ -1,5 +1,8 @@
-use mathlib.Core.Path.{sym, _∙_}
-use Rattle.link.proofs.Polling.{replied-refused, replied-done}
+use mathlib.Core.Path.{sym, ap₂, _∙_}
+use Rattle.link.specs.Link.{asTurn}
+use Rattle.link.specs.declared.pppos.PPPoS.{PPPoS}
+use Rattle.link.specs.declared.pppos.PPPoSAction.{PPPoSAction}
+use Rattle.link.proofs.Polling.{polled, answered-refused, answered-done}
 use borrow.Author.Needs.{needs}
 use Rattle.link.proofs.pppos.PPPoS.answer.Statement.{statement}
 use Rattle.link.proofs.pppos.PPPoS.answer.Tie as tie
@@ -17,7 +20,8 @@ returns : tie.Need-returns
 returns c =
     let a = c .before .before .before .before .before .before .before .args in
     let e = c .decline .ensures in
-    replied-refused (a .self) (a .r) (a .t) (a .tx .now) (a .rx .now) (c .before .before .before .o .given .1) (e .0) (e .1 ∙ c .before .with-reader .ensures)
+    ap₂ (λ (x : PPPoSAction) (l : PPPoS). polled x l (a .tx .now) (a .rx .now)) (e .0) (e .1 ∙ c .before .with-reader .ensures)
+    ∙ sym (answered-refused (a .self) (a .r) (asTurn (a .t)) (a .tx .now) (a .rx .now) (c .before .before .before .o .given .1))
 
 enum-told : tie.Need-enum-told
 enum-told c = search needs
@@ -36,7 +40,7 @@ returns-2 c =
     let w = c .before .before .before .before in
     let o = w .before .before .before in
     let a = o .before .before .before .before .args in
-    w .write .ensures ∙ sym (replied-done (a .self) (a .r) (a .t) (a .tx .now) (a .rx .now) (o .enum-told .given .1))
+    w .write .ensures ∙ sym (answered-done (a .self) (a .r) (asTurn (a .t)) (a .tx .now) (a .rx .now) (o .enum-told .given .1))
 
 pub answer-spec : {M : Type 1} → statement M
 answer-spec =

@@ -1,8 +1,9 @@
-use mathlib.Core.Path.{sym, ap₂, _∙_}
+use mathlib.Core.Path.{sym, ap, ap₂, _∙_}
 use native.Mathlib.Omega.{arith}
-use Rattle.link.proofs.Polling.{polled, polls-of, answered-rested, replied-answered, turns-short, got-packet, poll-short, poll-nothing, poll-refused, poll-packet}
-use Rattle.phases.specs.Phases.{pollOf}
+use Rattle.link.proofs.Polling.{polled, polls-of, answered-rested, turned-is, turns-short, got-packet, poll-short, poll-nothing, poll-refused, poll-packet}
+use Rattle.phases.specs.Phases.{PppTurn}
 use Rattle.phases.proofs.Phasing.{poll-sends}
+use Rattle.link.specs.Link.{answeredPoll}
 use Rattle.link.specs.declared.pppos.PPPoS.{PPPoS}
 use Rattle.link.specs.declared.pppos.PPPoSAction.{PPPoSAction}
 use borrow.Author.Needs.{needs}
@@ -39,7 +40,7 @@ poll-requires : tie.Need-poll-requires
 poll-requires c κs = search needs
 
 answer-requires : tie.Need-answer-requires
-answer-requires c κs = turns-short (c .before .before .poll .ensures) (poll-sends (c .before .before .before .before .before .before .before .before .before .before .before .before .before .before .args .self .ppp))
+answer-requires c κs = turns-short (c .before .before .poll .ensures) (poll-sends (c .before .before .before .before .before .before .before .before .before .before .before .before .before .before .args .self .ppp)) (omega arith)
 
 enum-known-g : tie.Need-enum-known-g
 enum-known-g c = search needs
@@ -68,11 +69,10 @@ returns-3 : tie.Need-returns-3
 returns-3 c =
     let a = c .before .before .before .before .before .before .before .before .before .before .before .before .before .before .before .before .before .before .before .args in
     let t = c .before .before .before .before .before .before .before .poll in
-    let s = poll-sends (a .self .ppp) in
     let g = c .before .before .before .before .before .before .before .before .before .before .before in
     let i = g .before .before .before in
     polls-of (c .before .before .before .before .answer .ensures
-    ∙ replied-answered (a .self) (a .self .«frame_reader») (pollOf (a .self .ppp)) (a .tx .now) (a .rx .now) (omega arith) (t .result) (t .ensures)
+    ∙ ap (λ (x : PppTurn). answeredPoll (a .self) (a .self .«frame_reader») x (a .tx .now) (a .rx .now)) (turned-is {t = t .result} (t .ensures))
     ∙ sym (poll-nothing (a .self) (a .tx .now) (a .rx .now) (omega (arith, i .before .if1 .left)) (i .receive .ensures) (g .enum-told .given .1)))
 
 returns-4 : tie.Need-returns-4

@@ -1,9 +1,11 @@
 use mathlib.Core.Path.{sym, ap, _∙_}
-use Rattle.link.proofs.Polling.{polled, replied-answered, turns-short, packet-ip, packet-turn}
+use Rattle.link.proofs.Polling.{polled, turned-is, turns-short, packet-ip, packet-turn}
 use Prim.Native.Nat.{_-_}
 use lib.ListN.{take, drop}
-use Rattle.phases.specs.Phases.{turnOf}
+use native.Mathlib.Omega.{arith}
+use Rattle.phases.specs.Phases.{PppTurn}
 use Rattle.phases.proofs.Phasing.{turn-sends}
+use Rattle.link.specs.Link.{answeredPoll}
 use Rattle.link.specs.declared.pppos.PPPoS.{PPPoS}
 use Rattle.link.specs.declared.pppos.PPPoSAction.the-variants.{Received}
 use borrow.Author.Needs.{needs}
@@ -49,7 +51,7 @@ turn-requires c κs = search needs
 answer-requires : tie.Need-answer-requires
 answer-requires c κs =
     let a = c .before .before .before .before .before .before .before .before .before .before .before .before .args in
-    turns-short (c .before .before .turn .ensures) (turn-sends (a .self .ppp) _)
+    turns-short (c .before .before .turn .ensures) (turn-sends (a .self .ppp) _) (omega arith)
 
 same-length-2 : tie.Need-same-length-2
 same-length-2 c = search needs
@@ -64,7 +66,7 @@ returns-2 c =
     let t = c .before .before .before .before .before .before .before .turn in
     let pkt = take (a .to - 1) (drop 1 (a .rx .now)) in
     c .before .before .before .before .answer .ensures
-    ∙ replied-answered (a .self) (a .r) (turnOf (a .self .ppp) pkt) (a .tx .now) (a .rx .now) (turn-sends (a .self .ppp) pkt .few) (t .result) (t .ensures)
+    ∙ ap (λ (x : PppTurn). answeredPoll (a .self) (a .r) x (a .tx .now) (a .rx .now)) (turned-is {t = t .result} (t .ensures))
     ∙ sym (packet-turn (a .self) (a .r) (a .to) (a .tx .now) (a .rx .now) pkt (sym (i .before .is-ip .ensures) ∙ i .if1 .left))
 
 pub poll-packet-spec : {M : Type 1} → statement M
