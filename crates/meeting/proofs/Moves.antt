@@ -12,7 +12,7 @@ use Rattle.options.specs.Options.{walkIn, walkFrom}
 use Rattle.options.specs.Proto.{ownNacked, nacksOf}
 use Rattle.options.specs.Reply.{listedOf, stepOf, replyOf}
 use Rattle.negotiation.specs.Messages.{nextId}
-use Rattle.negotiation.specs.Automaton.{requested, ackOf, reqWith, reqOf, nackWith, nackOf, termAckOf, ignoredTurn, echoOf, actOf, handleOf, rejectTurn, openedFsm}
+use Rattle.negotiation.specs.Automaton.{requested, ackOf, reqWith, reqOf, nackWith, nackOf, termAckOf, ignoreOf, echoOf, actOf, handleOf, protocolRejectOf, openedFsm}
 use Rattle.phases.specs.Phases.{pppTurned, rejectOf, receivedOf, establishOf, authOf, networkOf, phaseOf, openOf, pollOf, turnOf}
 use Rattle.phases.specs.Sound.{Calm}
 use Rattle.meeting.proofs.Says.{Self, selfOf, offer, heard, lcpPacket, hello, ask, grant, deny, lcpAt, ipAt, end, begun, greeted, net, Small, Moves}
@@ -23,7 +23,7 @@ use Rattle.phases.specs.declared.ppp.Ppp.{Ppp}
 
 -- every definition that a turn goes through
 unfoldable opened : Unit {0}
-unfolding beFrom beBytes same pktOf walkIn walkFrom ownNacked nacksOf listedOf stepOf replyOf requested ackOf reqWith reqOf nackWith nackOf termAckOf ignoredTurn echoOf actOf handleOf openedFsm rejectTurn rejectOf receivedOf establishOf authOf networkOf phaseOf turnOf
+unfolding beFrom beBytes same pktOf walkIn walkFrom ownNacked nacksOf listedOf stepOf replyOf requested ackOf reqWith reqOf nackWith nackOf termAckOf ignoreOf echoOf actOf handleOf openedFsm protocolRejectOf rejectOf receivedOf establishOf authOf networkOf phaseOf turnOf
 opened = tt
 
 id-byte : (i : ℕ) → nextId i < 256

@@ -20,7 +20,7 @@ use Rattle.negotiation.specs.declared.replies.Replies.{Replies}
 use Rattle.options.specs.Wire.{pktOf, lengthField}
 use Rattle.negotiation.specs.Replies.{repliesOf, added, maxReplies}
 use Rattle.negotiation.specs.Messages.{nextId, requestBytes, replyBytes, termAckBytes, echoBytes}
-use Rattle.negotiation.specs.Automaton.{ackResends, afterAck, afterNack, isOpened, handled, refusedTurn, withState, stepped, requested, requestedIn, ackOf, afterReply, reqWith, afterNacked, nackWith, termAckOf, ignoredTurn, echoOf, actOf, handleOf}
+use Rattle.negotiation.specs.Automaton.{ackResends, afterAck, afterNack, isOpened, handled, refusalOf, withState, stepped, requested, requestedIn, ackOf, afterReply, reqWith, afterNacked, nackWith, termAckOf, ignoreOf, echoOf, actOf, handleOf}
 use Rattle.negotiation.proofs.Joining.{add-replies}
 
 -- an own request as the code builds it
@@ -49,7 +49,7 @@ module _ {g : OptionFsm} {t : State} {r : Replies} (f : OptionFsm) (et : t ≡ a
   ack-taken k = rw (er, eg, et, k) refl
 
 pub req-refused : {why : Refusal} {h : Handled} (f : OptionFsm) (i : ℕ) (r : Reply) → r .outcome ≡ Refused why
-    → h ≡ handled (refusedTurn f why) → h ≡ handled (reqWith f i r)
+    → h ≡ handled (refusalOf f why) → h ≡ handled (reqWith f i r)
 unfolding reqWith
 req-refused f i r e k = rw e k
 
@@ -64,7 +64,7 @@ module _ {g : OptionFsm} {s : Replies} (f : OptionFsm) (i : ℕ) (r : Reply) (e 
   req-kept k = rw (es, eg, e, k) refl
 
 pub nack-refused : {why : Refusal} {h : Handled} (f : OptionFsm) (n : Nacked) → n .outcome ≡ Refused why
-    → h ≡ handled (refusedTurn f why) → h ≡ handled (nackWith f n)
+    → h ≡ handled (refusalOf f why) → h ≡ handled (nackWith f n)
 unfolding nackWith
 nack-refused f n e k = rw e k
 
@@ -79,7 +79,7 @@ unfolding termAckOf
 term-of f i er eq es = rw (one-reply (termAckBytes (f .proto) i) er eq es) refl
 
 module _ {n : ℕ} {h : Handled} (f : OptionFsm) (p : List ℕ) (l : 6 ≤ length p) (e : n ≡ lengthField p + 2) where
-  pub handle-over : length p < n → h ≡ handled (ignoredTurn f) → h ≡ handled (handleOf f p)
+  pub handle-over : length p < n → h ≡ handled (ignoreOf f) → h ≡ handled (handleOf f p)
   unfolding handleOf
   handle-over k eh = rw (le-ltb _ _ l, ← e, lt-ltb _ _ k) eh
 
@@ -88,15 +88,15 @@ module _ {n : ℕ} {h : Handled} (f : OptionFsm) (p : List ℕ) (l : 6 ≤ lengt
   handle-in k eh = rw (le-ltb _ _ l, ← e, le-ltb _ _ k) eh
 
 module _ (f : OptionFsm) (p : List ℕ) where
-  pub echo-not : isOpened (f .state) ≡ false → ignoredTurn f ≡ echoOf f p
+  pub echo-not : isOpened (f .state) ≡ false → ignoreOf f ≡ echoOf f p
   unfolding echoOf
   echo-not k = rw k refl
 
-  pub echo-short : isOpened (f .state) ≡ true → length p < 3 → refusedTurn f EchoEmpty ≡ echoOf f p
+  pub echo-short : isOpened (f .state) ≡ true → length p < 3 → refusalOf f EchoEmpty ≡ echoOf f p
   unfolding echoOf
   echo-short k h = rw (k, lt-ltb _ _ h) refl
 
-  pub echo-long : isOpened (f .state) ≡ true → 3 ≤ length p → 128 < length p → refusedTurn f ReplyLong ≡ echoOf f p
+  pub echo-long : isOpened (f .state) ≡ true → 3 ≤ length p → 128 < length p → refusalOf f ReplyLong ≡ echoOf f p
   unfolding echoOf
   echo-long k h l = rw (k, le-ltb _ _ h, lt-ltb _ _ l) refl
 

@@ -24,29 +24,29 @@ use Rattle.options.proofs.Fair.{Short, Fair, fair-answer, nacks-kind}
 use Rattle.negotiation.specs.declared.option_fsm.OptionFsm.{OptionFsm}
 use Rattle.negotiation.specs.declared.states.State.the-variants.{ReqSent}
 use Rattle.negotiation.specs.Messages.{nextId, requestBytes, replyBytes, termAckBytes, echoBytes, rejectBytes}
-use Rattle.negotiation.specs.Automaton.{ackResends, afterAck, afterTerm, isClosed, isOpened, Turn, turned, refusedTurn, withState, requested, ackOf, afterReply, repliedTurn, unless, reqWith, reqOf, afterNacked, nackWith, nackOf, termAckOf, ignoredTurn, echoOf, actOf, handleOf, stepped, rejectTurn, openedFsm}
+use Rattle.negotiation.specs.Automaton.{ackResends, afterAck, afterTerm, isClosed, isOpened, Reaction, reacts, refusalOf, withState, requested, ackOf, afterReply, repliedOf, unless, reqWith, reqOf, afterNacked, nackWith, nackOf, termAckOf, ignoreOf, echoOf, actOf, handleOf, stepped, protocolRejectOf, openedFsm}
 use Rattle.negotiation.proofs.Lengths.{request-length, reply-length, term-ack-length, echo-length, reject-length}
 
 -- of a step from f that leaves t
-pub record Proper (f : OptionFsm) (t : Turn) : Type 0 where
+pub record Proper (f : OptionFsm) (t : Reaction) : Type 0 where
   pub few : length (t .sent) ≤ 2
   pub short : Each Short (t .sent)
   pub kind : protocolOf (t .fsm .proto) ≡ protocolOf (f .proto)
   pub left : isDone (t .outcome) ≡ false → (t .fsm ≡ f) × (t .sent ≡ []) × (t .echoed ≡ false)
 
 module _ (f : OptionFsm) where
-  proper-done : (g : OptionFsm) (ps : List (List ℕ)) → protocolOf (g .proto) ≡ protocolOf (f .proto) → length ps ≤ 2 → Each Short ps → Proper f (turned g ps)
+  proper-done : (g : OptionFsm) (ps : List (List ℕ)) → protocolOf (g .proto) ≡ protocolOf (f .proto) → length ps ≤ 2 → Each Short ps → Proper f (reacts g ps)
   proper-done g ps e h k = record { few = h; short = k; kind = e; left = λ x. absurd (true≢false x) }
 
-  proper-refused : (why : Refusal) → Proper f (refusedTurn f why)
+  proper-refused : (why : Refusal) → Proper f (refusalOf f why)
   proper-refused why = record { few = omega arith; short = tt; kind = refl; left = λ x. (refl, refl, refl) }
 
-  proper-ignored : Proper f (ignoredTurn f)
-  unfolding ignoredTurn
+  proper-ignored : Proper f (ignoreOf f)
+  unfolding ignoreOf
   proper-ignored = proper-done f [] refl (omega arith) tt
 
   -- one packet
-  proper-one : (g : OptionFsm) (l : List ℕ) → protocolOf (g .proto) ≡ protocolOf (f .proto) → Short l → Proper f (turned g (l ∷ []))
+  proper-one : (g : OptionFsm) (l : List ℕ) → protocolOf (g .proto) ≡ protocolOf (f .proto) → Short l → Proper f (reacts g (l ∷ []))
   proper-one g l e h = proper-done g (l ∷ []) e (omega arith) (h, tt)
 
   proper-requested : (g : OptionFsm) (ps : List (List ℕ)) → protocolOf (g .proto) ≡ protocolOf (f .proto) → length ps ≤ 1 → Each Short ps → Proper f (requested g ps)
@@ -56,7 +56,7 @@ module _ (f : OptionFsm) where
       let s : length l ≤ 128 = omega (arith, request-length (g .proto) (nextId (g .id))) in
       proper-done _ (ps ++ l ∷ []) e (rw length-append (omega arith)) (each-append Short ps (l ∷ []) k (s, tt))
 
-  proper-unless : (o : Outcome) (t : Turn) → Proper f t → Proper f (unless o f t)
+  proper-unless : (o : Outcome) (t : Reaction) → Proper f t → Proper f (unless o f t)
   proper-unless Done t h = h
   proper-unless (Refused why) t h = proper-refused why
 
@@ -64,7 +64,7 @@ module _ (f : OptionFsm) where
   unfolding reqWith
   proper-req i r fair =
       let s : length (replyBytes i r) ≤ 128 = omega (arith, reply-length i r (fair .ready)) in
-      proper-unless (r .outcome) (repliedTurn f i r)
+      proper-unless (r .outcome) (repliedOf f i r)
       (cond-all (Proper f) (isOpened (f .state))
       (proper-requested (afterReply f r) (replyBytes i r ∷ []) (fair .kind) (omega arith) (s, tt))
       (proper-one (afterReply f r) (replyBytes i r) (fair .kind) s))
@@ -115,8 +115,8 @@ module _ (f : OptionFsm) where
       cond-all (Proper f) (ltb (length p) 6) proper-ignored
       (cond-all (Proper f) (ltb (length p) (lengthField p + 2)) proper-ignored (proper-act (getD p 2 0) (getD p 3 0) (take (lengthField p + 2) p)))
 
-  pub proper-reject : (p : List ℕ) → Proper f (rejectTurn f p)
-  unfolding rejectTurn
+  pub proper-reject : (p : List ℕ) → Proper f (protocolRejectOf f p)
+  unfolding protocolRejectOf
   proper-reject p =
       cond-by (Proper f) (ltb 122 (length p)) (λ _. proper-refused ReplyLong)
       (λ e. proper-one (stepped f) (rejectBytes (nextId (f .id)) p) refl (omega (arith, reject-length (nextId (f .id)) p, ltb-false 122 (length p) e)))

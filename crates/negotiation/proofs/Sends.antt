@@ -13,7 +13,7 @@ use Rattle.negotiation.specs.declared.option_fsm.OptionFsm.{OptionFsm}
 use Rattle.negotiation.specs.declared.pap.Pap.{Pap}
 use Rattle.negotiation.specs.declared.pap.PapState.the-variants.{ReqSent}
 use Rattle.options.specs.Wire.{lengthField}
-use Rattle.negotiation.specs.Automaton.{handleOf, rejectTurn, openedFsm}
+use Rattle.negotiation.specs.Automaton.{handleOf, protocolRejectOf, openedFsm}
 use Rattle.negotiation.specs.Pap.{isPapSent, withPapState, PapTurn, papBytes, papRequested, papActOf, papHandleOf, openedPap}
 use Rattle.options.proofs.Fair.{Short}
 use Rattle.negotiation.proofs.Proper.{proper-handle, proper-reject, proper-opened, opened-one}
@@ -37,7 +37,7 @@ module _ (f : OptionFsm) where
   pub handle-sends : (pkt : List ℕ) → Sends 2 (handleOf f pkt .sent)
   handle-sends pkt = record { few = proper-handle f pkt .few; short = proper-handle f pkt .short }
 
-  pub reject-sends : (pkt : List ℕ) → Sends 2 (rejectTurn f pkt .sent)
+  pub reject-sends : (pkt : List ℕ) → Sends 2 (protocolRejectOf f pkt .sent)
   reject-sends pkt = record { few = proper-reject f pkt .few; short = proper-reject f pkt .short }
 
   pub opened-sends : Sends 1 (openedFsm f .sent)

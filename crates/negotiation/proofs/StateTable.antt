@@ -23,7 +23,7 @@ use Rattle.negotiation.specs.declared.states.State.the-variants.{Closed,
 use Rattle.options.specs.Options.{walkOf}
 use Rattle.options.specs.Proto.{startOf, nacksOf}
 use Rattle.options.specs.Reply.{freshReply, replyOf}
-use Rattle.negotiation.specs.Automaton.{afterAcked, afterNotAcked, afterReq, afterAck, ackResends, afterNack, afterTerm, isClosed, isOpened, Turn, turned, refusedTurn, withState, requested, ackOf, afterReply, repliedTurn, unless, reqWith, reqOf, afterNacked, nackWith, nackOf, termAckOf, actOf}
+use Rattle.negotiation.specs.Automaton.{afterAcked, afterNotAcked, afterReq, afterAck, ackResends, afterNack, afterTerm, isClosed, isOpened, withState, requested, ackOf, afterReply, unless, reqWith, reqOf, afterNacked, nackWith, nackOf, termAckOf, actOf, Reaction, reacts, refusalOf, repliedOf}
 use Rattle.negotiation.specs.StateTable.{Event, reqAcked, reqNotAcked, ack, nackOrRej, terminate, Transition, row, table}
 use Rattle.negotiation.specs.Messages.{nextId, requestBytes, termAckBytes}
 
@@ -58,7 +58,7 @@ abbrev pub answer : OptionFsm → List ℕ → Reply
 answer f p = replyOf (freshReply (startOf (f .proto))) (walkOf (drop 6 p))
 
 -- what a packet of an event leaves
-pub data Leaves (f : OptionFsm) (i : ℕ) (p : List ℕ) : Event → Turn → Type 0 where
+pub data Leaves (f : OptionFsm) (i : ℕ) (p : List ℕ) : Event → Reaction → Type 0 where
   acked : answer f p .verdict ≡ Ack → Leaves f i p reqAcked (actOf f 1 i p)
   nacked : answer f p .verdict ≡ Nack → Leaves f i p reqNotAcked (actOf f 1 i p)
   rejected : answer f p .verdict ≡ Rej → Leaves f i p reqNotAcked (actOf f 1 i p)
@@ -68,7 +68,7 @@ pub data Leaves (f : OptionFsm) (i : ℕ) (p : List ℕ) : Event → Turn → Ty
   terminateIn : Leaves f i p terminate (actOf f 5 i p)
 
 -- the state that is left; where an own request follows it is the last packet, and the id steps
-pub record Moved (f : OptionFsm) (to : State) (asks : Bool) (t : Turn) : Type 0 where
+pub record Moved (f : OptionFsm) (to : State) (asks : Bool) (t : Reaction) : Type 0 where
   pub state : t .fsm .state ≡ to
   pub id : t .fsm .id ≡ cond asks (nextId (f .id)) (f .id)
   pub request : asks ≡ true → getD (t .sent) (length (t .sent) - 1) [] ≡ requestBytes (t .fsm .proto) (t .fsm .id)
@@ -88,14 +88,14 @@ is-closed AckSent e = absurd (false≢true e)
 is-closed Opened e = absurd (false≢true e)
 
 module _ (f : OptionFsm) (i : ℕ) (p : List ℕ) where
-  -- what is to hold of a turn that is not refused
-  abbrev Goes : State → Bool → Turn → Type 0
+  -- what is to hold of a step that is not refused
+  abbrev Goes : State → Bool → Reaction → Type 0
   Goes to asks t = t .outcome ≡ Done → Moved f to asks t
 
-  refused-goes : {to : State} {asks : Bool} (why : Refusal) → Goes to asks (refusedTurn f why)
+  refused-goes : {to : State} {asks : Bool} (why : Refusal) → Goes to asks (refusalOf f why)
   refused-goes why e = absurd (let z : _≡_ {A = ℕ} 0 1 = cc in omega arith)
 
-  unless-goes : (to : State) (asks : Bool) (o : Outcome) (t : Turn) → Goes to asks t → Goes to asks (unless o f t)
+  unless-goes : (to : State) (asks : Bool) (o : Outcome) (t : Reaction) → Goes to asks t → Goes to asks (unless o f t)
   unless-goes to asks Done t h = h
   unless-goes to asks (Refused why) t h = refused-goes why
 
@@ -104,11 +104,11 @@ module _ (f : OptionFsm) (i : ℕ) (p : List ℕ) where
   requested-goes g ps e _ =
       record { state = refl; id = rw e refl; request = λ _. getD-at ps (requestBytes (g .proto) (nextId (g .id))) [] [] _ (rw length-append (omega arith)) }
 
-  turned-goes : (g : OptionFsm) (ps : List (List ℕ)) → g .id ≡ f .id → Goes (g .state) false (turned g ps)
-  turned-goes g ps e _ = record { state = refl; id = e; request = λ x. absurd (false≢true x) }
+  reacts-goes : (g : OptionFsm) (ps : List (List ℕ)) → g .id ≡ f .id → Goes (g .state) false (reacts g ps)
+  reacts-goes g ps e _ = record { state = refl; id = e; request = λ x. absurd (false≢true x) }
 
   -- Closed answers by TerminateAck, the other states by t
-  closed-goes : (e : Event) (t : Turn) → (isClosed (f .state) ≡ false → Goes (afterOf e (f .state)) (asksOf e (f .state)) t)
+  closed-goes : (e : Event) (t : Reaction) → (isClosed (f .state) ≡ false → Goes (afterOf e (f .state)) (asksOf e (f .state)) t)
       → Goes (afterOf e (f .state)) (asksOf e (f .state)) (cond (isClosed (f .state)) (termAckOf f i) t)
   unfolding termAckOf
   closed-goes e t h = cond-by (Goes (afterOf e (f .state)) (asksOf e (f .state))) (isClosed (f .state)) shut h
@@ -116,23 +116,23 @@ module _ (f : OptionFsm) (i : ℕ) (p : List ℕ) where
       shut : isClosed (f .state) ≡ true → Goes (afterOf e (f .state)) (asksOf e (f .state)) (termAckOf f i)
       shut k =
           let s = is-closed (f .state) k in
-          rw (s, closed-stays e .0, closed-stays e .1) (rw s at (turned-goes f (termAckBytes (f .proto) i ∷ []) refl))
+          rw (s, closed-stays e .0, closed-stays e .1) (rw s at (reacts-goes f (termAckBytes (f .proto) i ∷ []) refl))
 
   pub req-goes : (v : Verdict) → answer f p .verdict ≡ v → Goes (afterReq (f .state) v) (isOpened (f .state)) (reqOf f i p)
   unfolding reqOf reqWith
   req-goes v e =
       cond-all (Goes (afterReq (f .state) v) (isOpened (f .state))) (ltb (length p) 6) (refused-goes _)
-      (unless-goes _ _ (answer f p .outcome) (repliedTurn f i (answer f p))
+      (unless-goes _ _ (answer f p .outcome) (repliedOf f i (answer f p))
       (rw (← e) (cond-by (Goes (afterReq (f .state) (answer f p .verdict)) (isOpened (f .state))) (isOpened (f .state))
       (λ k. rw k (requested-goes (afterReply f (answer f p)) _ refl))
-      (λ k. rw k (turned-goes (afterReply f (answer f p)) _ refl)))))
+      (λ k. rw k (reacts-goes (afterReply f (answer f p)) _ refl)))))
 
   pub ack-goes : Goes (afterAck (f .state)) (ackResends (f .state)) (ackOf f)
   unfolding ackOf
   ack-goes =
       cond-by (Goes (afterAck (f .state)) (ackResends (f .state))) (ackResends (f .state))
       (λ k. rw k (requested-goes (withState f (afterAck (f .state))) [] refl))
-      (λ k. rw k (turned-goes (withState f (afterAck (f .state))) [] refl))
+      (λ k. rw k (reacts-goes (withState f (afterAck (f .state))) [] refl))
 
   pub nack-goes : (rej : Bool) → isClosed (f .state) ≡ false → Goes (afterNack (f .state)) (not (isClosed (f .state))) (nackOf f rej p)
   unfolding nackOf nackWith
@@ -144,9 +144,9 @@ module _ (f : OptionFsm) (i : ℕ) (p : List ℕ) where
 
   term-goes : Goes (afterTerm (f .state)) false (termAckOf (withState f (afterTerm (f .state))) i)
   unfolding termAckOf
-  term-goes = turned-goes (withState f (afterTerm (f .state))) _ refl
+  term-goes = reacts-goes (withState f (afterTerm (f .state))) _ refl
 
-  pub leaves-goes : (e : Event) (t : Turn) → Leaves f i p e t → Goes (afterOf e (f .state)) (asksOf e (f .state)) t
+  pub leaves-goes : (e : Event) (t : Reaction) → Leaves f i p e t → Goes (afterOf e (f .state)) (asksOf e (f .state)) t
   unfolding actOf
   leaves-goes e t (acked v) = closed-goes reqAcked _ (λ _. req-goes Ack v)
   leaves-goes e t (nacked v) = closed-goes reqNotAcked _ (λ _. req-goes Nack v)
@@ -159,7 +159,7 @@ module _ (f : OptionFsm) (i : ℕ) (p : List ℕ) where
 -- a packet of the row's event, in the state it starts from and not refused, does what the row says
 abbrev pub Holds : Transition → Type 0
 Holds r =
-    (f : OptionFsm) (i : ℕ) (p : List ℕ) (t : Turn) → f .state ≡ r .from → Leaves f i p (r .event) t → t .outcome ≡ Done → Moved f (r .to) (r .asks) t
+    (f : OptionFsm) (i : ℕ) (p : List ℕ) (t : Reaction) → f .state ≡ r .from → Leaves f i p (r .event) t → t .outcome ≡ Done → Moved f (r .to) (r .asks) t
 
 row-holds : (e : Event) (s : State) → Holds (row e s (afterOf e s) (asksOf e s))
 row-holds e s f i p t k l = rw (← k) (leaves-goes f i p e t l)

@@ -96,21 +96,21 @@ isOpened Opened = true
 -- ---- what a step leaves
 
 -- the outcome, whether an echo was answered, the automaton, and the packets sent, in order
-pub record Turn : Type 0 where
+pub record Reaction : Type 0 where
   pub outcome : Outcome
   pub echoed : Bool
   pub fsm : OptionFsm
   pub sent : List (List ℕ)
 
-abbrev pub handled : Turn → Handled
+abbrev pub handled : Reaction → Handled
 handled t = record { outcome = t .outcome; echoed = t .echoed; fsm = t .fsm; replies = repliesOf (t .sent) }
 
-abbrev pub turned : OptionFsm → List (List ℕ) → Turn
-turned f ps = record { outcome = Done; echoed = false; fsm = f; sent = ps }
+abbrev pub reacts : OptionFsm → List (List ℕ) → Reaction
+reacts f ps = record { outcome = Done; echoed = false; fsm = f; sent = ps }
 
 -- a refusal leaves the automaton
-abbrev pub refusedTurn : OptionFsm → Refusal → Turn
-refusedTurn f why = record { outcome = Refused why; echoed = false; fsm = f; sent = [] }
+abbrev pub refusalOf : OptionFsm → Refusal → Reaction
+refusalOf f why = record { outcome = Refused why; echoed = false; fsm = f; sent = [] }
 
 abbrev pub withState : OptionFsm → State → OptionFsm
 withState f s = record { id = f .id; state = s; proto = f .proto }
@@ -120,8 +120,8 @@ abbrev pub stepped : OptionFsm → OptionFsm
 stepped f = record { id = nextId (f .id); state = f .state; proto = f .proto }
 
 -- an own request behind the packets ps
-unfoldable pub requested : OptionFsm → List (List ℕ) → Turn
-requested f ps = turned (stepped f) (ps ++ (requestBytes (f .proto) (nextId (f .id)) ∷ []))
+unfoldable pub requested : OptionFsm → List (List ℕ) → Reaction
+requested f ps = reacts (stepped f) (ps ++ (requestBytes (f .proto) (nextId (f .id)) ∷ []))
 
 -- the same behind a record of replies
 abbrev pub requestedIn : OptionFsm → Replies → Handled
@@ -130,81 +130,81 @@ requestedIn f rs =
 
 -- ---- one packet, by its code
 
-unfoldable pub ackOf : OptionFsm → Turn
-ackOf f = cond (ackResends (f .state)) (requested (withState f (afterAck (f .state))) []) (turned (withState f (afterAck (f .state))) [])
+unfoldable pub ackOf : OptionFsm → Reaction
+ackOf f = cond (ackResends (f .state)) (requested (withState f (afterAck (f .state))) []) (reacts (withState f (afterAck (f .state))) [])
 
 abbrev pub afterReply : OptionFsm → Reply → OptionFsm
 afterReply f r = record { id = f .id; state = afterReq (f .state) (r .verdict); proto = r .proto }
 
 -- the reply goes first, then an own request from Opened
-abbrev pub repliedTurn : OptionFsm → ℕ → Reply → Turn
-repliedTurn f i r =
-    cond (isOpened (f .state)) (requested (afterReply f r) (replyBytes i r ∷ [])) (turned (afterReply f r) (replyBytes i r ∷ []))
+abbrev pub repliedOf : OptionFsm → ℕ → Reply → Reaction
+repliedOf f i r =
+    cond (isOpened (f .state)) (requested (afterReply f r) (replyBytes i r ∷ [])) (reacts (afterReply f r) (replyBytes i r ∷ []))
 
 -- the refusal of an outcome, or nothing
-abbrev pub unless : Outcome → OptionFsm → Turn → Turn
+abbrev pub unless : Outcome → OptionFsm → Reaction → Reaction
 unless Done f t = t
-unless (Refused why) f t = refusedTurn f why
+unless (Refused why) f t = refusalOf f why
 
-unfoldable pub reqWith : OptionFsm → ℕ → Reply → Turn
-reqWith f i r = unless (r .outcome) f (repliedTurn f i r)
+unfoldable pub reqWith : OptionFsm → ℕ → Reply → Reaction
+reqWith f i r = unless (r .outcome) f (repliedOf f i r)
 
 -- a packet p whose options stand behind six bytes
-unfoldable pub reqOf : OptionFsm → ℕ → List ℕ → Turn
+unfoldable pub reqOf : OptionFsm → ℕ → List ℕ → Reaction
 reqOf f i p =
-    cond (ltb (length p) 6) (refusedTurn f ConfigureShort) (reqWith f i (replyOf (freshReply (startOf (f .proto))) (walkOf (drop 6 p))))
+    cond (ltb (length p) 6) (refusalOf f ConfigureShort) (reqWith f i (replyOf (freshReply (startOf (f .proto))) (walkOf (drop 6 p))))
 
 abbrev pub afterNacked : OptionFsm → Proto → OptionFsm
 afterNacked f p = record { id = f .id; state = afterNack (f .state); proto = p }
 
-unfoldable pub nackWith : OptionFsm → Nacked → Turn
+unfoldable pub nackWith : OptionFsm → Nacked → Reaction
 nackWith f n = unless (n .outcome) f (requested (afterNacked f (n .proto)) [])
 
-unfoldable pub nackOf : OptionFsm → Bool → List ℕ → Turn
-nackOf f rej p = cond (ltb (length p) 6) (refusedTurn f ConfigureShort) (nackWith f (nacksOf rej (f .proto) (walkOf (drop 6 p))))
+unfoldable pub nackOf : OptionFsm → Bool → List ℕ → Reaction
+nackOf f rej p = cond (ltb (length p) 6) (refusalOf f ConfigureShort) (nackWith f (nacksOf rej (f .proto) (walkOf (drop 6 p))))
 
-unfoldable pub termAckOf : OptionFsm → ℕ → Turn
-termAckOf f i = turned f (termAckBytes (f .proto) i ∷ [])
+unfoldable pub termAckOf : OptionFsm → ℕ → Reaction
+termAckOf f i = reacts f (termAckBytes (f .proto) i ∷ [])
 
-unfoldable pub ignoredTurn : OptionFsm → Turn
-ignoredTurn f = turned f []
+unfoldable pub ignoreOf : OptionFsm → Reaction
+ignoreOf f = reacts f []
 
-unfoldable pub echoOf : OptionFsm → List ℕ → Turn
+unfoldable pub echoOf : OptionFsm → List ℕ → Reaction
 echoOf f p =
     cond (isOpened (f .state))
     (cond (ltb (length p) 3)
-    (refusedTurn f EchoEmpty)
+    (refusalOf f EchoEmpty)
     (cond (ltb 128 (length p))
-    (refusedTurn f ReplyLong)
+    (refusalOf f ReplyLong)
     (record { outcome = Done; echoed = true; fsm = f; sent = echoBytes (f .proto) p ∷ [] })))
-    (ignoredTurn f)
+    (ignoreOf f)
 
 -- a packet p with code c and id i
-unfoldable pub actOf : OptionFsm → ℕ → ℕ → List ℕ → Turn
+unfoldable pub actOf : OptionFsm → ℕ → ℕ → List ℕ → Reaction
 actOf f c i p =
     cond (eqb c 9) (echoOf f p)
-    (cond (eqb c 11) (ignoredTurn f)
+    (cond (eqb c 11) (ignoreOf f)
     (cond (isClosed (f .state)) (termAckOf f i)
     (cond (eqb c 1) (reqOf f i p)
     (cond (eqb c 2) (ackOf f)
     (cond (eqb c 3) (nackOf f false p)
     (cond (eqb c 4) (nackOf f true p)
     (cond (eqb c 5) (termAckOf (withState f (afterTerm (f .state))) i)
-    (ignoredTurn f))))))))
+    (ignoreOf f))))))))
 
 -- a received packet: one that is too short is ignored, and so is what lies behind the Length
-unfoldable pub handleOf : OptionFsm → List ℕ → Turn
+unfoldable pub handleOf : OptionFsm → List ℕ → Reaction
 handleOf f p =
-    cond (ltb (length p) 6) (ignoredTurn f)
-    (cond (ltb (length p) (lengthField p + 2)) (ignoredTurn f)
+    cond (ltb (length p) 6) (ignoreOf f)
+    (cond (ltb (length p) (lengthField p + 2)) (ignoreOf f)
     (actOf f (getD p 2 0) (getD p 3 0) (take (lengthField p + 2) p)))
 
 -- ---- Protocol-Reject, opening and closing
 
 -- Protocol-Reject steps the id
-unfoldable pub rejectTurn : OptionFsm → List ℕ → Turn
-rejectTurn f pkt = cond (ltb 122 (length pkt)) (refusedTurn f ReplyLong) (turned (stepped f) (rejectBytes (nextId (f .id)) pkt ∷ []))
+unfoldable pub protocolRejectOf : OptionFsm → List ℕ → Reaction
+protocolRejectOf f pkt = cond (ltb 122 (length pkt)) (refusalOf f ReplyLong) (reacts (stepped f) (rejectBytes (nextId (f .id)) pkt ∷ []))
 
 -- whatever the state was
-unfoldable pub openedFsm : OptionFsm → Turn
+unfoldable pub openedFsm : OptionFsm → Reaction
 openedFsm f = requested (withState f ReqSent) []

@@ -2,7 +2,7 @@
 ghost use mathlib.Core.Path.{_≡_};
 ghost use Prim.Native.Nat.{_≤_};
 ghost use Rattle.options.specs.Reply.{Ready};
-ghost use Rattle.negotiation.specs.Automaton.{handled, refusedTurn, withState, stepped, requestedIn, ackOf, afterReply, reqWith, reqOf, nackWith, nackOf, termAckOf, ignoredTurn, echoOf, actOf, handleOf, rejectTurn, openedFsm};
+ghost use Rattle.negotiation.specs.Automaton.{handled, refusalOf, withState, stepped, requestedIn, ackOf, afterReply, reqWith, reqOf, nackWith, nackOf, termAckOf, ignoreOf, echoOf, actOf, handleOf, protocolRejectOf, openedFsm};
 use crate::messages::echo_packet;
 use crate::messages::next_id;
 use crate::messages::reject_packet;
@@ -75,7 +75,7 @@ impl OptionFsm {
     }
 
     fn ignore(self) -> Handled
-        ensures { λ h. ⌜ h ≡ handled (ignoredTurn self) ⌝ }
+        ensures { λ h. ⌜ h ≡ handled (ignoreOf self) ⌝ }
     {
         Handled {
             outcome: Outcome::Done,
@@ -86,7 +86,7 @@ impl OptionFsm {
     }
 
     fn refuse(self, why: Refusal) -> Handled
-        ensures { λ h. ⌜ h ≡ handled (refusedTurn self why) ⌝ }
+        ensures { λ h. ⌜ h ≡ handled (refusalOf self why) ⌝ }
     {
         Handled {
             outcome: Outcome::Refused(why),
@@ -282,7 +282,7 @@ impl OptionFsm {
 
     // An unknown protocol is rejected in every state; the id steps.
     pub fn send_protocol_reject(self, pkt: &[u8]) -> Handled
-        ensures { λ h. ⌜ h ≡ handled (rejectTurn self (now (pkt .entry))) ⌝ }
+        ensures { λ h. ⌜ h ≡ handled (protocolRejectOf self (now (pkt .entry))) ⌝ }
     {
         if 122 < pkt.len() {
             return self.refuse(Refusal::ReplyLong);

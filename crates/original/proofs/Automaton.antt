@@ -50,11 +50,11 @@ module _ {X P : Type 0} (T : theirs.Protocol P) (inj : X → Proto) (view : X �
   there i s x = record { id = i; state = viewState s; proto = view x }
 
   -- both leave the same and send the same; or the original gives a packet above 128 bytes, or panics, where ours refuses
-  pub data SameTurn (pkt : List ℕ) : Run (theirs.Handled P) → ours.Turn → Type 0 where
-    same : {h : theirs.Handled P} {t : ours.Turn} (i : ℕ) (s : State) (x : X) → i < 256 → h .fsm ≡ there i s x → t .fsm ≡ here i s x → t .outcome ≡ Done
+  pub data SameTurn (pkt : List ℕ) : Run (theirs.Handled P) → ours.Reaction → Type 0 where
+    same : {h : theirs.Handled P} {t : ours.Reaction} (i : ℕ) (s : State) (x : X) → i < 256 → h .fsm ≡ there i s x → t .fsm ≡ here i s x → t .outcome ≡ Done
         → h .pkt ≡ cond (t .echoed) (set pkt 2 10) pkt → (t .echoed ≡ true → 2 < length pkt) → Carried (h .tx) (t .sent) → SameTurn pkt (returns h) t
-    long : {h : theirs.Handled P} {t : ours.Turn} (q : Packet) → h .tx ≡ q ∷ [] → 128 < packetLen q → t .outcome ≡ Refused ReplyLong → SameTurn pkt (returns h) t
-    stops : {p : Place} {t : ours.Turn} → RefusedAt p (t .outcome) → SameTurn pkt (panics p) t
+    long : {h : theirs.Handled P} {t : ours.Reaction} (q : Packet) → h .tx ≡ q ∷ [] → 128 < packetLen q → t .outcome ≡ Refused ReplyLong → SameTurn pkt (returns h) t
+    stops : {p : Place} {t : ours.Reaction} → RefusedAt p (t .outcome) → SameTurn pkt (panics p) t
 
   -- ---- what is sent
 
@@ -73,7 +73,7 @@ module _ {X P : Type 0} (T : theirs.Protocol P) (inj : X → Proto) (view : X �
   module _ (pkt : List ℕ) where
     -- no echo
     pub plain : (i : ℕ) (s : State) (x : X) → i < 256 → {tx : List Packet} {ps : List (List ℕ)} → Carried tx ps
-        → SameTurn pkt (theirs.handled T (there i s x) pkt tx) (ours.turned (here i s x) ps)
+        → SameTurn pkt (theirs.handled T (there i s x) pkt tx) (ours.reacts (here i s x) ps)
     plain i s x small c = same i s x small refl refl refl refl (λ e. absurd (false≢true e)) c
 
     request-same : (i : ℕ) (s s′ : State) (x : X) {tx : List Packet} {ps : List (List ℕ)} → Carried tx ps
@@ -130,7 +130,7 @@ module _ {X P : Type 0} (T : theirs.Protocol P) (inj : X → Proto) (view : X �
         go r n (replies.refused f) = rw (f .outcome) (stops (refused-so f))
 
     after-req : (i : ℕ) (s : State) (v : verdict.Verdict) (x : X) {tx : List Packet} {ps : List (List ℕ)} → i < 256 → ours.isClosed s ≡ false → Carried tx ps
-        → SameTurn pkt (theirs.afterResp T (viewState s) (eqb (codeOf v) 2) (there i s x) pkt tx) (cond (ours.isOpened s) (ours.requested (here i (ours.afterReq s v) x) ps) (ours.turned (here i (ours.afterReq s v) x) ps))
+        → SameTurn pkt (theirs.afterResp T (viewState s) (eqb (codeOf v) 2) (there i s x) pkt tx) (cond (ours.isOpened s) (ours.requested (here i (ours.afterReq s v) x) ps) (ours.reacts (here i (ours.afterReq s v) x) ps))
     after-req i Closed v x small e c = absurd (true≢false e)
     after-req i ReqSent verdict.the-variants.Ack x small e c = plain i AckSent x small c
     after-req i ReqSent verdict.the-variants.Nack x small e c = plain i ReqSent x small c
@@ -176,7 +176,7 @@ module _ {X P : Type 0} (T : theirs.Protocol P) (inj : X → Proto) (view : X �
         go : (t : Run (theirs.Answer P)) (r : Reply) → SameAnswer T inj view stands t r
             → SameTurn pkt
             (t >>= (λ a. returns (reply i j s x a)) >>= λ r. theirs.afterResp T (viewState s) (theirs.isAck T (r .packet .payload)) (r .fsm) pkt (r .packet ∷ []))
-            (ours.unless (r .outcome) (here i s x) (ours.repliedTurn (here i s x) j r))
+            (ours.unless (r .outcome) (here i s x) (ours.repliedOf (here i s x) j r))
         go (returns a) r (replies.on k) =
             rw (k .going, k .proto, k .case, k .code)
             (after-req i s (r .verdict) (k .x) small live (more (reply-carries j a r small′ k) none))

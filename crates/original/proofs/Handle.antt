@@ -60,7 +60,7 @@ echo-part (a ∷ b ∷ []) h = absurd (omega arith)
 echo-part (a ∷ b ∷ c ∷ pkt) h = refl
 
 module _ {X P : Type 0} (T : theirs.Protocol P) (inj : X → Proto) (view : X → P) (stands : Stands T inj view) where
-  abbrev pub Same : List ℕ → Run (theirs.Handled P) → ours.Turn → Type 0
+  abbrev pub Same : List ℕ → Run (theirs.Handled P) → ours.Reaction → Type 0
   Same = SameTurn T inj view stands
 
   module _ (pkt : List ℕ) (bytes : Bytes pkt) where
@@ -75,7 +75,7 @@ module _ {X P : Type 0} (T : theirs.Protocol P) (inj : X → Proto) (view : X �
 
     echo-same : (i : ℕ) (s : State) (x : X) → i < 256
         → Same pkt (cond (theirs.isOpened (viewState s)) (theirs.sendEchoResponse T (there T inj view stands i s x) pkt) (theirs.handled T (there T inj view stands i s x) pkt [])) (ours.echoOf (here T inj view stands i s x) pkt)
-    unfolding ours.echoOf ours.ignoredTurn
+    unfolding ours.echoOf ours.ignoreOf
     echo-same i s x small =
         cond-both (Same pkt) (opened-is s)
         (λ _. cond-both (Same pkt) {t = ltb (length pkt) 3} refl (λ _. stops (refused-at EchoEmpty refl))
@@ -89,7 +89,7 @@ module _ {X P : Type 0} (T : theirs.Protocol P) (inj : X → Proto) (view : X �
 
     act-same : (i c j : ℕ) (s : State) (x : X) → i < 256 → j < 256 → (6 ≤ length pkt → getD pkt 3 0 ≡ j)
         → Same pkt (theirs.actOn T (there T inj view stands i s x) (codeFrom c) j pkt) (ours.actOf (here T inj view stands i s x) c j pkt)
-    unfolding theirs.actOn ours.actOf ours.ignoredTurn
+    unfolding theirs.actOn ours.actOf ours.ignoreOf
     act-same i c j s x small small′ third =
         cond-both (Same pkt) (code-is c 9 (lit< tt) (lit≤ tt)) (λ _. echo-same i s x small)
         (λ _. cond-both (Same pkt) (code-is c 11 (lit< tt) (lit≤ tt)) (λ _. ignored)
@@ -100,10 +100,10 @@ module _ {X P : Type 0} (T : theirs.Protocol P) (inj : X → Proto) (view : X �
         (λ _. nacks live (eqb (codeFrom c) 3) (eqb (codeFrom c) 4) (code-is c 3 (lit< tt) (lit≤ tt)) (code-is c 4 (lit< tt) (lit≤ tt))
         (cond-both (Same pkt) (code-is c 5 (lit< tt) (lit≤ tt)) (λ _. on-term T inj view stands pkt i j s x small small′ live) (λ _. ignored)))))))
       where
-        ignored : Same pkt (theirs.handled T (there T inj view stands i s x) pkt []) (ours.turned (here T inj view stands i s x) [])
+        ignored : Same pkt (theirs.handled T (there T inj view stands i s x) pkt []) (ours.reacts (here T inj view stands i s x) [])
         ignored = plain T inj view stands pkt i s x small none
 
-        nacks : ours.isClosed s ≡ false → (t u : Bool) → t ≡ eqb c 3 → u ≡ eqb c 4 → {a : Run (theirs.Handled P)} {b : ours.Turn} → Same pkt a b
+        nacks : ours.isClosed s ≡ false → (t u : Bool) → t ≡ eqb c 3 → u ≡ eqb c 4 → {a : Run (theirs.Handled P)} {b : ours.Reaction} → Same pkt a b
             → Same pkt (cond (t || u) (theirs.onConfigureNack T (there T inj view stands i s x) u pkt) a)
             (cond (eqb c 3) (ours.nackOf (here T inj view stands i s x) false pkt) (cond (eqb c 4) (ours.nackOf (here T inj view stands i s x) true pkt) b))
         nacks live true u e f k =
@@ -113,7 +113,7 @@ module _ {X P : Type 0} (T : theirs.Protocol P) (inj : X → Proto) (view : X �
         nacks live false false e f k = rw (← e, ← f) k
 
   -- what lies behind the Length stays
-  back-same : (n : ℕ) (pkt : List ℕ) (r : Run (theirs.Handled P)) (t : ours.Turn) → Same (take n pkt) r t
+  back-same : (n : ℕ) (pkt : List ℕ) (r : Run (theirs.Handled P)) (t : ours.Reaction) → Same (take n pkt) r t
       → Same pkt (r >>= λ h. theirs.handled T (h .fsm) (h .pkt ++ drop n pkt) (h .tx)) t
   back-same n pkt r t (same {h} i s x small a b c d e f) =
       let back : h .pkt ++ drop n pkt ≡ cond (t .echoed) (set pkt 2 10) pkt = rw d (go (t .echoed) e) in
@@ -130,7 +130,7 @@ module _ {X P : Type 0} (T : theirs.Protocol P) (inj : X → Proto) (view : X �
 
   pub handle-same : (i : ℕ) (s : State) (x : X) (pkt : List ℕ) → i < 256 → Bytes pkt
       → Same pkt (theirs.handle T (there T inj view stands i s x) pkt) (ours.handleOf (here T inj view stands i s x) pkt)
-  unfolding theirs.handle ours.handleOf ours.ignoredTurn
+  unfolding theirs.handle ours.handleOf ours.ignoreOf
   handle-same i s x pkt small bytes =
       let n = lengthField pkt + 2 in
       let front = each-take (λ b. b < 256) n pkt bytes in

@@ -15,7 +15,7 @@ use Rattle.negotiation.specs.Messages.{nextId}
 use Rattle.negotiation.specs.Automaton as ours
 use Rattle.negotiation.specs.Pap.{PapTurn}
 use Rattle.options.specs.Wire.{protocolIn}
-use Rattle.negotiation.specs.Automaton.{rejectTurn}
+use Rattle.negotiation.specs.Automaton.{protocolRejectOf}
 use Rattle.phases.specs.Phases.{PppTurn, lcpTurn, ipv4cpTurn, papTurn, rejectOf, receivedOf}
 use Rattle.options.specs.declared.refusal.Refusal.the-variants.{ReplyLong}
 use Rattle.options.specs.declared.refusal.Outcome.the-variants.{Done, Refused}
@@ -49,14 +49,14 @@ pub data SameReceived (pkt : List ℕ) : Run theirs.Received → PppTurn → Typ
   stops : {p : Place} {t : PppTurn} → RefusedAt p (t .outcome) → SameReceived pkt (panics p) t
 
 module _ (p : ppp.Ppp) (held : Held p) (pkt : List ℕ) where
-  lcp-turn : (h : Run (Handled Lcp)) (t : ours.Turn) → Same lcpProtocol proto.Lcp viewLcp lcp-stands pkt h t
+  lcp-turn : (h : Run (Handled Lcp)) (t : ours.Reaction) → Same lcpProtocol proto.Lcp viewLcp lcp-stands pkt h t
       → SameReceived pkt (h >>= λ h. returns (record { ppp = theirs.withLcp (viewPpp p) (h .fsm); pkt = h .pkt; tx = h .tx })) (lcpTurn p t)
   lcp-turn h t (automaton.same i s x small a b c d e f) =
       rw b (same (ap (theirs.withLcp (viewPpp p)) a) (record { lcp-id = small; ipv4cp-id = held .ipv4cp-id; pap = held .pap }) c d e f)
   lcp-turn h t (automaton.long q a b c) = long q a b c
   lcp-turn h t (automaton.stops f) = stops f
 
-  ipv4cp-turn : (h : Run (Handled Ipv4cp)) (t : ours.Turn) → Same ipv4cpProtocol proto.Ipv4cp viewIpv4cp ipv4cp-stands pkt h t
+  ipv4cp-turn : (h : Run (Handled Ipv4cp)) (t : ours.Reaction) → Same ipv4cpProtocol proto.Ipv4cp viewIpv4cp ipv4cp-stands pkt h t
       → SameReceived pkt (h >>= λ h. returns (record { ppp = theirs.withIpv4cp (viewPpp p) (h .fsm); pkt = h .pkt; tx = h .tx })) (ipv4cpTurn p t)
   ipv4cp-turn h t (automaton.same i s x small a b c d e f) =
       rw b (same (ap (theirs.withIpv4cp (viewPpp p)) a) (record { lcp-id = held .lcp-id; ipv4cp-id = small; pap = held .pap }) c d e f)
@@ -70,7 +70,7 @@ module _ (p : ppp.Ppp) (held : Held p) (pkt : List ℕ) where
   pap-turn h t (pap.stops f) = stops f
 
   reject-same : Bytes pkt → SameReceived pkt (theirs.receivedBy Unknown (viewPpp p) pkt) (rejectOf p pkt)
-  unfolding rejectOf rejectTurn
+  unfolding rejectOf protocolRejectOf
   reject-same bytes =
       let i = nextId (p .lcp .id) in
       let q : Packet = packetOf lcpProtocol (PPP 8 i (RawData pkt)) in

@@ -18,7 +18,7 @@ use Rattle.options.specs.Options.{walkOf}
 use Rattle.options.specs.Proto.{protocolOf, ownNacked, nacksOf}
 use Rattle.options.proofs.Fair.{length-packet}
 use Rattle.negotiation.specs.Messages.{termAckBytes}
-use Rattle.negotiation.specs.Automaton.{afterTerm, isClosed, isOpened, turned, withState, requested, ackOf, afterNacked, nackWith, nackOf, termAckOf, ignoredTurn, echoOf, actOf, handleOf}
+use Rattle.negotiation.specs.Automaton.{afterTerm, isClosed, isOpened, reacts, withState, requested, ackOf, afterNacked, nackWith, nackOf, termAckOf, ignoreOf, echoOf, actOf, handleOf}
 use Rattle.papers.proofs.Packets.{Sent, read-as}
 use Rattle.papers.proofs.Walked.{walkOptions, walk-options}
 use Rattle.papers.proofs.Sending.{numberFor, sent-by}
@@ -107,14 +107,14 @@ module _ (f : OptionFsm) (n : isClosed (f .state) ≡ false) {bytes info : List 
 
   -- ---- what gets no answer
 
-  pub ignores : Each (λ c. Carried bytes p c i info → handleOf f bytes ≡ turned f []) (terminateAck ∷ codeReject ∷ protocolReject ∷ echoReply ∷ [])
-  unfolding actOf ignoredTurn
+  pub ignores : Each (λ c. Carried bytes p c i info → handleOf f bytes ≡ reacts f []) (terminateAck ∷ codeReject ∷ protocolReject ∷ echoReply ∷ [])
+  unfolding actOf ignoreOf
   ignores =
       ((λ k. by-code f k ∙ rw n refl), ((λ k. by-code f k ∙ rw n refl), ((λ k. by-code f k ∙ rw n refl), ((λ k. by-code f k ∙ rw n refl), tt))))
 
 module _ (f : OptionFsm) {bytes info : List ℕ} {p i : ℕ} where
-  pub discards : Carried bytes p discardRequest i info → handleOf f bytes ≡ turned f []
-  unfolding actOf ignoredTurn
+  pub discards : Carried bytes p discardRequest i info → handleOf f bytes ≡ reacts f []
+  unfolding actOf ignoreOf
   discards k = by-code f k
 
   -- what is Closed answers all but an echo and what is to be discarded with a Terminate-Ack

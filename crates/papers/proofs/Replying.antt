@@ -22,7 +22,7 @@ use Rattle.options.specs.Options.{walkOf}
 use Rattle.options.specs.Proto.{protocolOf, startOf, suggestionOf}
 use Rattle.options.proofs.Fair.{length-packet, fair-answer}
 use Rattle.negotiation.specs.Messages.{nextId, requestBytes, codeOf, replyBytes}
-use Rattle.negotiation.specs.Automaton.{isClosed, isOpened, Turn, requested, repliedTurn, unless, reqWith, reqOf, actOf, handleOf}
+use Rattle.negotiation.specs.Automaton.{isClosed, isOpened, requested, unless, reqWith, reqOf, actOf, handleOf, Reaction, repliedOf}
 use Rattle.options.proofs.Suggesting.{start-suggestion}
 use Rattle.papers.proofs.Packets.{Sent}
 use Rattle.papers.proofs.Verdicts.{lcpVerdict, verdictOf, judgedAll}
@@ -43,7 +43,7 @@ answer-code p Nack i d h k = sent-by p configureNak i d (omega arith) h k
 answer-code p Rej i d h k = sent-by p configureReject i d (omega arith) h k
 
 -- what f sends and leaves for the options os, laid out in request, that came with the id i
-pub record Replied (f : OptionFsm) (i : ℕ) (request : List ℕ) (os : List Option) (t : Turn) : Type 0 where
+pub record Replied (f : OptionFsm) (i : ℕ) (request : List ℕ) (os : List Option) (t : Reaction) : Type 0 where
   pub verdict : Verdict
   pub info : List ℕ
   pub bytes : List ℕ
@@ -58,7 +58,7 @@ pub record Replied (f : OptionFsm) (i : ℕ) (request : List ℕ) (os : List Opt
   -- from Opened an own request follows
   pub sent : t .sent ≡ bytes ∷ cond (isOpened (f .state)) (requestBytes (t .fsm .proto) (nextId (f .id)) ∷ []) []
 
-pub done-with : (o : Outcome) (f : OptionFsm) (t : Turn) → isDone (unless o f t .outcome) ≡ true → o ≡ Done
+pub done-with : (o : Outcome) (f : OptionFsm) (t : Reaction) → isDone (unless o f t .outcome) ≡ true → o ≡ Done
 done-with Done f t d = refl
 done-with (Refused why) f t d = absurd (false≢true d)
 
@@ -68,7 +68,7 @@ start-verdict (Ipv4cp p) = refl
 
 module _ (f : OptionFsm) (i : ℕ) (b : i < 256) {request : List ℕ} {os : List Option} (l : Options request os)
     (e : replyTo (startOf (f .proto)) request .outcome ≡ Done) where
-  replied : Replied f i request os (repliedTurn f i (replyTo (startOf (f .proto)) request))
+  replied : Replied f i request os (repliedOf f i (replyTo (startOf (f .proto)) request))
   unfolding requested
   replied =
       let q = startOf (f .proto) in
@@ -79,7 +79,7 @@ module _ (f : OptionFsm) (i : ℕ) (b : i < 256) {request : List ℕ} {os : List
       let n : length (contentOf (r .packet)) + 4 < 65536 =
       omega (arith, length-take (r .packet .len) (r .packet .bytes), fair .ready .most, fair .ready .room) in
       let x = answer-code (r .proto) (r .verdict) i (contentOf (r .packet)) b n in
-      let made : (t : Turn) → t .fsm .proto ≡ r .proto
+      let made : (t : Reaction) → t .fsm .proto ≡ r .proto
       → t .sent ≡ replyBytes i r ∷ cond (isOpened (f .state)) (requestBytes (r .proto) (nextId (f .id)) ∷ []) []
       → Replied f i request os t = λ t y z.
       record {

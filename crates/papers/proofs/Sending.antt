@@ -18,7 +18,7 @@ use Rattle.options.specs.Wire.{packetOf}
 use Rattle.options.specs.Proto.{protocolOf, ownOf}
 use Rattle.options.proofs.Fair.{own-short}
 use Rattle.negotiation.specs.Messages.{nextId, requestBytes, rejectBytes}
-use Rattle.negotiation.specs.Automaton.{turned, stepped, requested, rejectTurn, openedFsm}
+use Rattle.negotiation.specs.Automaton.{reacts, stepped, requested, protocolRejectOf, openedFsm}
 use Rattle.papers.proofs.Packets.{Sent, laid-packet}
 use Rattle.papers.proofs.Layouts1661.{Carries, laid-both}
 use Rattle.papers.proofs.Layouts1662.{laid-map}
@@ -112,9 +112,9 @@ pub record Rejects (i protocol : ℕ) (information bytes : List ℕ) : Type 0 wh
   pub rejected : Rejected info protocol information
 
 pub rejects : (f : OptionFsm) {pkt information : List ℕ} {protocol : ℕ} → Encapsulated pkt protocol information → length pkt ≤ 122
-    → (rejectTurn f pkt ≡ turned (stepped f) (rejectBytes (nextId (f .id)) pkt ∷ []))
+    → (protocolRejectOf f pkt ≡ reacts (stepped f) (rejectBytes (nextId (f .id)) pkt ∷ []))
     × Rejects (nextId (f .id)) protocol information (rejectBytes (nextId (f .id)) pkt)
-unfolding rejectTurn
+unfolding protocolRejectOf
 rejects f {pkt} x h = (
   rw (le-ltb _ _ h) refl,
   record {

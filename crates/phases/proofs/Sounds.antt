@@ -26,7 +26,7 @@ use Rattle.negotiation.specs.declared.states.State.{State}
 use Rattle.negotiation.specs.declared.states.State.the-variants.{Closed, ReqSent, AckReceived, AckSent, Opened}
 use Rattle.options.specs.Refusal.{isDone}
 use Rattle.options.specs.Wire.{protocolIn, lengthField}
-use Rattle.negotiation.specs.Automaton.{afterAcked, afterNotAcked, afterReq, afterAck, afterNack, afterTerm, isClosed, isOpened, Turn, requested, termAckOf, ackOf, reqOf, nackOf, ignoredTurn, echoOf, actOf, handleOf, rejectTurn, openedFsm}
+use Rattle.negotiation.specs.Automaton.{afterAcked, afterNotAcked, afterReq, afterAck, afterNack, afterTerm, isClosed, isOpened, Reaction, requested, termAckOf, ackOf, reqOf, nackOf, ignoreOf, echoOf, actOf, handleOf, protocolRejectOf, openedFsm}
 use Rattle.negotiation.specs.Pap.{fitsCredentials, isPapSent, isPapOpened, PapTurn, papRequested, papActOf, papHandleOf, openedPap}
 use Rattle.phases.specs.Phases.{freshWith, withPhase, withOpening, withLcp, lcpIn, ipv4cpIn, PppTurn, rejectOf, receivedOf, Step, stepTo, opensLcp, opensIpv4cp, opensPap, closesIpv4cp, closesPap, byAuth, establishOf, authOf, networkOf, diesOf, settled, phaseOf, isPapClosed, restsOf, pollOf, turnOf, isDead, pppTurned, openOf, newOf}
 use Rattle.phases.specs.Sound.{isEstablish, Sound, Calm}
@@ -143,14 +143,14 @@ req-near s Nack = after-near afterNotAcked refl refl refl refl s
 req-near s Rej = after-near afterNotAcked refl refl refl refl s
 
 module _ (f : OptionFsm) where
-  abbrev NearTurn : Turn → Type 0
+  abbrev NearTurn : Reaction → Type 0
   NearTurn t = t .outcome ≡ Done → Near (f .state) (t .fsm .state)
 
-  moved-near : (t : Turn) {to : State} → Near (f .state) to → (t .outcome ≡ Done → t .fsm .state ≡ to) → NearTurn t
+  moved-near : (t : Reaction) {to : State} → Near (f .state) to → (t .outcome ≡ Done → t .fsm .state ≡ to) → NearTurn t
   moved-near t n m d = rw (m d) n
 
-  stays : NearTurn (ignoredTurn f)
-  unfolding ignoredTurn
+  stays : NearTurn (ignoreOf f)
+  unfolding ignoreOf
   stays _ _ = refl
 
   act-near : (c i : ℕ) (p : List ℕ) → NearTurn (actOf f c i p)
@@ -182,9 +182,9 @@ module _ (f : OptionFsm) where
       by-test (isDone (handleOf f pkt .outcome)) (λ e. done-near pkt (done-is (handleOf f pkt .outcome) e))
       (λ e. rw (proper-handle f pkt .left e .0) (λ _. refl))
 
-  reject-near : (pkt : List ℕ) → Near (f .state) (rejectTurn f pkt .fsm .state)
-  unfolding rejectTurn
-  reject-near pkt = cond-all (λ (t : Turn). Near (f .state) (t .fsm .state)) (ltb 122 (length pkt)) (λ _. refl) (λ _. refl)
+  reject-near : (pkt : List ℕ) → Near (f .state) (protocolRejectOf f pkt .fsm .state)
+  unfolding protocolRejectOf
+  reject-near pkt = cond-all (λ (t : Reaction). Near (f .state) (t .fsm .state)) (ltb 122 (length pkt)) (λ _. refl) (λ _. refl)
 
 -- PAP's state stays, or an Ack opens it
 abbrev PapNear : PapState → PapState → Type 0

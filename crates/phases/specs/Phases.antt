@@ -10,7 +10,7 @@ use Rattle.options.specs.Wire.{protocolIn}
 use Rattle.negotiation.specs.Replies.{repliesOf}
 use Rattle.options.specs.Lcp.{freshLcp}
 use Rattle.options.specs.Ipv4cp.{freshIpv4cp, shown, shownIp}
-use Rattle.negotiation.specs.Automaton.{isClosed, isOpened, Turn, handleOf, rejectTurn, openedFsm}
+use Rattle.negotiation.specs.Automaton.{isClosed, isOpened, Reaction, handleOf, protocolRejectOf, openedFsm}
 use Rattle.negotiation.specs.Pap.{isPapOpened, fitsCredentials, papWith, withPapState, PapTurn, papHandleOf, openedPap}
 use Rattle.options.specs.declared.refusal.Refusal.{Refusal}
 use Rattle.options.specs.declared.refusal.Refusal.the-variants.{NotDead, CredentialsLong, PacketShort}
@@ -109,10 +109,10 @@ pppRefused p why = record { outcome = Refused why; echoed = false; ppp = p; sent
 
 -- ---- a received packet, by its protocol
 
-abbrev pub lcpTurn : Ppp → Turn → PppTurn
+abbrev pub lcpTurn : Ppp → Reaction → PppTurn
 lcpTurn p t = record { outcome = t .outcome; echoed = t .echoed; ppp = withLcp p (lcpOut (t .fsm) (p .lcp)); sent = t .sent }
 
-abbrev pub ipv4cpTurn : Ppp → Turn → PppTurn
+abbrev pub ipv4cpTurn : Ppp → Reaction → PppTurn
 ipv4cpTurn p t = record { outcome = t .outcome; echoed = t .echoed; ppp = withIpv4cp p (ipv4cpOut (t .fsm) (p .ipv4cp)); sent = t .sent }
 
 abbrev pub papTurn : Ppp → PapTurn → PppTurn
@@ -120,7 +120,7 @@ papTurn p t = record { outcome = t .outcome; echoed = false; ppp = withPap p (t 
 
 -- Protocol-Reject goes out under LCP's id, in every phase
 unfoldable pub rejectOf : Ppp → List ℕ → PppTurn
-rejectOf p pkt = lcpTurn p (rejectTurn (lcpIn (p .lcp)) pkt)
+rejectOf p pkt = lcpTurn p (protocolRejectOf (lcpIn (p .lcp)) pkt)
 
 -- an IPv4 packet is the link's to hand out, and changes nothing here
 unfoldable pub receivedOf : Ppp → List ℕ → PppTurn

@@ -13,7 +13,7 @@ use Rattle.options.specs.Refusal.{numberOf, isDone, outcomeNumber}
 use Rattle.options.specs.declared.refusal.Outcome.{Outcome}
 use Rattle.options.specs.declared.refusal.Outcome.the-variants.{Done, Refused}
 use Rattle.negotiation.specs.Replies.{repliesOf}
-use Rattle.negotiation.specs.Automaton.{handled, handleOf, rejectTurn}
+use Rattle.negotiation.specs.Automaton.{handled, handleOf, protocolRejectOf}
 use Rattle.negotiation.specs.Pap.{papHandled, papHandleOf}
 use Rattle.negotiation.specs.declared.option_fsm.OptionFsm.{OptionFsm}
 use Rattle.negotiation.specs.declared.option_fsm.Handled.{Handled}
@@ -63,9 +63,9 @@ handle-left f pkt {h} e z =
     not-done Done n = absurd (n refl)
     not-done (Refused why) n = refl
 
-pub reject-first : (f : OptionFsm) (pkt : List ℕ) {h : Handled} → h ≡ handled (rejectTurn f pkt)
+pub reject-first : (f : OptionFsm) (pkt : List ℕ) {h : Handled} → h ≡ handled (protocolRejectOf f pkt)
     → First (outcomeNumber (h .outcome)) (record { kept = h .fsm; echoed = h .echoed; count = h .replies .count }) (rejectRows f pkt)
-unfolding rejectTurn
+unfolding protocolRejectOf
 reject-first f pkt {h} e =
     by-le (length pkt) 122
     (λ l. rw (e, le-ltb _ _ l) (inr ((λ k. omega arith), refl)))

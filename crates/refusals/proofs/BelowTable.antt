@@ -6,7 +6,7 @@ use mathlib.Core.List.{List}
 use Prim.Native.Nat.{ℕ}
 use Rattle.options.specs.Refusal.{outcomeNumber}
 use Rattle.options.specs.declared.refusal.Outcome.{Outcome}
-use Rattle.negotiation.specs.Automaton.{handled, handleOf, rejectTurn}
+use Rattle.negotiation.specs.Automaton.{handled, handleOf, protocolRejectOf}
 use Rattle.negotiation.specs.Pap.{papHandled, papHandleOf}
 use Rattle.negotiation.specs.declared.option_fsm.Handled.{Handled}
 use Rattle.negotiation.specs.declared.option_fsm.OptionFsm.{OptionFsm}
@@ -34,7 +34,7 @@ pub record BelowHolds : Type 0 where
   -- `OptionFsm::handle`, `OptionFsm::send_protocol_reject`, `Pap::handle`
   pub handle : (f : OptionFsm) (pkt : List ℕ) {h : Handled} → h ≡ handled (handleOf f pkt) → (outcomeNumber (h .outcome) ≡ 0 → ⊥)
       → Unchanged f (record { kept = h .fsm; echoed = h .echoed; count = h .replies .count })
-  pub reject : (f : OptionFsm) (pkt : List ℕ) {h : Handled} → h ≡ handled (rejectTurn f pkt)
+  pub reject : (f : OptionFsm) (pkt : List ℕ) {h : Handled} → h ≡ handled (protocolRejectOf f pkt)
       → Exactly ⊥ (rejectRows f pkt) (outcomeNumber (h .outcome)) (record { kept = h .fsm; echoed = h .echoed; count = h .replies .count })
   pub pap : (p : Pap) (pkt : List ℕ) {h : PapHandled} → h ≡ papHandled (papHandleOf p pkt)
       → Exactly ⊥ (papRows p pkt) (outcomeNumber (h .outcome)) (record { kept = h .pap; echoed = false; count = h .replies .count })

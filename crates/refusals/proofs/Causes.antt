@@ -15,7 +15,7 @@ use Rattle.options.specs.Refusal.{outcomeNumber}
 use Rattle.options.specs.Options.{walkOf}
 use Rattle.options.specs.Proto.{startOf, nacksOf}
 use Rattle.options.specs.Reply.{freshReply, replyOf}
-use Rattle.negotiation.specs.Automaton.{isClosed, isOpened, ackResends, Turn, unless, requested, ackOf, repliedTurn, reqWith, reqOf, nackWith, nackOf, termAckOf, ignoredTurn, echoOf, actOf, handleOf, rejectTurn}
+use Rattle.negotiation.specs.Automaton.{isClosed, isOpened, ackResends, Reaction, unless, requested, ackOf, repliedOf, reqWith, reqOf, nackWith, nackOf, termAckOf, ignoreOf, echoOf, actOf, handleOf, protocolRejectOf}
 use Rattle.negotiation.specs.Pap.{isPapSent, PapTurn, papRequested, papActOf, papHandleOf}
 use Rattle.phases.specs.Phases.{lcpIn, ipv4cpIn, PppTurn, rejectOf, receivedOf}
 use Rattle.negotiation.specs.declared.option_fsm.OptionFsm.{OptionFsm}
@@ -59,7 +59,7 @@ fsm-kind ipv4cp p = refl
 
 -- ---- the outcome of a step
 
-unless-outcome : (o : Outcome) (f : OptionFsm) (t : Turn) → t .outcome ≡ Done → unless o f t .outcome ≡ o
+unless-outcome : (o : Outcome) (f : OptionFsm) (t : Reaction) → t .outcome ≡ Done → unless o f t .outcome ≡ o
 unless-outcome Done f t e = e
 unless-outcome (Refused why) f t e = refl
 
@@ -74,7 +74,7 @@ module _ (f : OptionFsm) where
     req-outcome h =
         let r = replyOf (freshReply (startOf (f .proto))) (walkOf (drop 6 q)) in
         rw (le-ltb _ _ h)
-        (unless-outcome (r .outcome) f (repliedTurn f i r) (cond-all (λ (t : Turn). t .outcome ≡ Done) (isOpened (f .state)) refl refl))
+        (unless-outcome (r .outcome) f (repliedOf f i r) (cond-all (λ (t : Reaction). t .outcome ≡ Done) (isOpened (f .state)) refl refl))
 
   module _ (rej : Bool) (q : List ℕ) where
     nack-short : length q < 6 → nackOf f rej q .outcome ≡ Refused ConfigureShort
@@ -116,7 +116,7 @@ module _ (f : OptionFsm) where
     echo-fine l m = rw (h, le-ltb _ _ l, le-ltb _ _ m) refl
 
   echo-elsewhere : (q : List ℕ) → isOpened (f .state) ≡ false → echoOf f q .outcome ≡ Done
-  unfolding echoOf ignoredTurn
+  unfolding echoOf ignoreOf
   echo-elsewhere q h = rw h refl
 
 -- ---- PAP
@@ -221,7 +221,7 @@ module _ (p : Ppp) (pkt : List ℕ) where
 
   reject-refused : (protocolAt pkt ≡ 0xC021 → ⊥) → (protocolAt pkt ≡ 0xC023 → ⊥) → (protocolAt pkt ≡ 0x0021 → ⊥) → (protocolAt pkt ≡ 0x8021 → ⊥)
       → 128 < length pkt + 6 → numberFrom p pkt ≡ 10
-  unfolding receivedOf rejectOf rejectTurn
+  unfolding receivedOf rejectOf protocolRejectOf
   reject-refused a b c d h =
       let two : 2 ≤ length pkt = omega arith in
       let long : 122 < length pkt = omega arith in
@@ -244,7 +244,7 @@ pub data Cause (p : Ppp) (pkt : List ℕ) : ℕ → Type 0 where
   replyLong : ReplyLong p pkt → Cause p pkt 10
 
 -- of what a step comes to
-abbrev Caused : Ppp → List ℕ → Turn → Type 0
+abbrev Caused : Ppp → List ℕ → Reaction → Type 0
 Caused p pkt t = Cause p pkt (outcomeNumber (t .outcome))
 
 module _ (p : Ppp) (pkt : List ℕ) (w : Which) where
@@ -282,7 +282,7 @@ module _ (p : Ppp) (pkt : List ℕ) (w : Which) where
       (λ s. rw (echo-elsewhere f q s) fine)
 
   act-cause : ((c : ℕ) → codeAt pkt ≡ c → Heeded w c pkt) → Caused p pkt (actOf (fsmFor w p) (codeAt pkt) (getD pkt 3 0) (bodyOf pkt))
-  unfolding actOf ackOf requested termAckOf ignoredTurn
+  unfolding actOf ackOf requested termAckOf ignoreOf
   act-cause k =
       let P = Caused p pkt in
       let c = codeAt pkt in
@@ -298,7 +298,7 @@ module _ (p : Ppp) (pkt : List ℕ) (w : Which) where
       (λ _. cond-all P (eqb c 5) fine fine)))))))
 
   handle-cause : protocolAt pkt ≡ numberFor w → Caused p pkt (handleOf (fsmFor w p) pkt)
-  unfolding handleOf ignoredTurn
+  unfolding handleOf ignoreOf
   handle-cause e =
       let P = Caused p pkt in
       cond-by P (ltb (length pkt) 6) (λ _. fine)
@@ -314,7 +314,7 @@ module _ (p : Ppp) (pkt : List ℕ) where
       go (inr x) = rw (x .1) fine
 
   pub cause : Cause p pkt (numberFrom p pkt)
-  unfolding receivedOf rejectOf rejectTurn
+  unfolding receivedOf rejectOf protocolRejectOf
   cause =
       let P : PppTurn → Type 0 = λ t. Cause p pkt (outcomeNumber (t .outcome)) in
       let n = protocolAt pkt in
@@ -323,6 +323,6 @@ module _ (p : Ppp) (pkt : List ℕ) where
       (λ a. cond-by P (eqb n 0xC023) (λ e. pap-cause (eqb-true n 0xC023 e))
       (λ b. cond-by P (eqb n 0x0021) (λ _. fine)
       (λ c. cond-by P (eqb n 0x8021) (λ e. handle-cause p pkt ipv4cp (eqb-true n 0x8021 e))
-      (λ d. cond-by (λ (t : Turn). Cause p pkt (outcomeNumber (t .outcome))) (ltb 122 (length pkt))
+      (λ d. cond-by (λ (t : Reaction). Cause p pkt (outcomeNumber (t .outcome))) (ltb 122 (length pkt))
       (λ l. replyLong (ReplyLong.reject (eqb-false _ _ a) (eqb-false _ _ b) (eqb-false _ _ c) (eqb-false _ _ d) (omega (arith, ltb-true 122 (length pkt) l))))
       (λ _. fine))))))

@@ -33,5 +33,5 @@ rows-right (r ∷ rs) t =
     (rows-right rs (both-right (sames.same (r .found) (r .wanted)) (allRight rs) t))
 
 pub worked : map (λ (r : Example). r .found) table ≡ map (λ (r : Example). r .wanted) table
-unfolding be.beFrom be.beBytes sames.same rfc.fcsBits rfc.fcs rfc.escaped rfc.unit rfc.stuffed rfc.frame reader.faultIn reader.step reader.fed wire.pktOf options.walkIn options.walkFrom reply.listedOf reply.stepOf reply.replyOf fsm.requested fsm.reqWith fsm.reqOf proto.ownNacked proto.nacksOf fsm.nackWith fsm.nackOf fsm.ignoredTurn fsm.actOf fsm.handleOf fsm.openedFsm phases.receivedOf phases.establishOf phases.phaseOf phases.turnOf frames.frames link.answeredPoll link.packetPoll link.pollLink
+unfolding be.beFrom be.beBytes sames.same rfc.fcsBits rfc.fcs rfc.escaped rfc.unit rfc.stuffed rfc.frame reader.faultIn reader.step reader.fed wire.pktOf options.walkIn options.walkFrom reply.listedOf reply.stepOf reply.replyOf fsm.requested fsm.reqWith fsm.reqOf proto.ownNacked proto.nacksOf fsm.nackWith fsm.nackOf fsm.ignoreOf fsm.actOf fsm.handleOf fsm.openedFsm phases.receivedOf phases.establishOf phases.phaseOf phases.turnOf frames.frames link.answeredPoll link.packetPoll link.pollLink
 worked = rows-right table tt

@@ -1,6 +1,6 @@
 use mathlib.Core.Path.{refl}
 use borrow.Author.Needs.{needs}
-use Rattle.negotiation.specs.Automaton.{ignoredTurn}
+use Rattle.negotiation.specs.Automaton.{ignoreOf}
 use Rattle.negotiation.proofs.option_fsm.OptionFsm.ignore.Statement.{statement}
 use Rattle.negotiation.proofs.option_fsm.OptionFsm.ignore.Tie as tie
 
@@ -8,7 +8,7 @@ none-requires : tie.Need-none-requires
 none-requires c κs = search needs
 
 returns : tie.Need-returns
-unfolding ignoredTurn
+unfolding ignoreOf
 returns c = rw (c .none .ensures .0) refl
 
 pub ignore-spec : {M : Type 1} → statement M

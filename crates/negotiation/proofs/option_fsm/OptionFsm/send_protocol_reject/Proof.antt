@@ -4,7 +4,7 @@ use borrow.Author.Tests.{lt-ltb, le-ltb}
 use borrow.Author.Needs.{needs}
 use lib.ListN.{length}
 use Rattle.negotiation.specs.Messages.{nextId, rejectBytes}
-use Rattle.negotiation.specs.Automaton.{rejectTurn}
+use Rattle.negotiation.specs.Automaton.{protocolRejectOf}
 use Rattle.negotiation.proofs.Automata.{one-reply}
 use Rattle.negotiation.proofs.option_fsm.OptionFsm.send_protocol_reject.Statement.{statement}
 use Rattle.negotiation.proofs.option_fsm.OptionFsm.send_protocol_reject.Tie as tie
@@ -13,7 +13,7 @@ refuse-requires : tie.Need-refuse-requires
 refuse-requires c κs = search needs
 
 returns : tie.Need-returns
-unfolding rejectTurn
+unfolding protocolRejectOf
 returns c = rw (lt-ltb 122 (length (c .before .before .before .args .pkt .now)) (omega arith)) (c .refuse .ensures)
 
 with-next-id-requires : tie.Need-with-next-id-requires
@@ -29,7 +29,7 @@ add-requires : tie.Need-add-requires
 add-requires c κs = search needs
 
 returns-2 : tie.Need-returns-2
-unfolding rejectTurn
+unfolding protocolRejectOf
 returns-2 c =
     let a = c .before .before .before .before .before .before .args in
     let f = c .before .before .before .with-next-id .ensures in
