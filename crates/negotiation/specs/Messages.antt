@@ -18,6 +18,7 @@ nextId i = (i + 1) % 256
 abbrev pub requestBytes : Proto → ℕ → List ℕ
 requestBytes p i = packetOf (protocolOf p) 1 i (ownOf p)
 
+-- the code of a reply
 abbrev pub codeOf : Verdict → ℕ
 codeOf Ack = 2
 codeOf Nack = 3
@@ -27,6 +28,7 @@ codeOf Rej = 4
 abbrev pub replyBytes : ℕ → Reply → List ℕ
 replyBytes i r = packetOf (protocolOf (r .proto)) (codeOf (r .verdict)) i (contentOf (r .packet))
 
+-- Terminate-Ack carries nothing
 abbrev pub termAckBytes : Proto → ℕ → List ℕ
 termAckBytes p i = packetOf (protocolOf p) 6 i []
 
