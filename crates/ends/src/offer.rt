@@ -76,7 +76,7 @@ pub(crate) fn offers(link: PPPoS, c: u8, x: u32) -> PPPoS {
     let p = link.ppp;
     let phase = p.phase;
     let a = p.lcp;
-    let b = p.pap;
+    let b = p.auth;
     let i = p.ipv4cp;
     PPPoS {
         frame_reader: reader(r, c),
@@ -84,7 +84,7 @@ pub(crate) fn offers(link: PPPoS, c: u8, x: u32) -> PPPoS {
             phase,
             opening: p.opening,
             lcp: lcp(a, c, x),
-            pap: b,
+            auth: b,
             ipv4cp: ipv4cp(i, c, x),
         },
     }

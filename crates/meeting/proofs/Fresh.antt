@@ -7,7 +7,7 @@ use Prim.Native.Nat.{ℕ, _≤_}
 use native.Mathlib.Omega.{arith}
 use lib.ListN.{length}
 use Rattle.laws.proofs.Cases.{cond-all}
-use Rattle.negotiation.specs.Pap.{fitsCredentials}
+use Rattle.negotiation.specs.Credentials.{fitsCredentials}
 use Rattle.phases.specs.Phases.{PppTurn}
 use Rattle.phases.specs.declared.ppp.Phase.the-variants.{Dead}
 use Rattle.link.specs.Link.{newLink}

@@ -13,6 +13,7 @@ use Rattle.options.specs.Proto.{ownNacked, nacksOf}
 use Rattle.options.specs.Reply.{listedOf, stepOf, replyOf}
 use Rattle.negotiation.specs.Messages.{nextId}
 use Rattle.negotiation.specs.Automaton.{requested, ackOf, reqWith, reqOf, nackWith, nackOf, termAckOf, ignoreOf, echoOf, actOf, handleOf, protocolRejectOf, openedFsm}
+use Rattle.negotiation.specs.Auth.{closedAuth}
 use Rattle.phases.specs.Phases.{pppTurned, rejectOf, receivedOf, establishOf, authOf, networkOf, phaseOf, openOf, pollOf, turnOf}
 use Rattle.phases.specs.Sound.{Calm}
 use Rattle.meeting.proofs.Says.{Self, selfOf, offer, heard, lcpPacket, hello, ask, grant, deny, lcpAt, ipAt, end, begun, greeted, net, Small, Moves}
@@ -23,7 +24,7 @@ use Rattle.phases.specs.declared.ppp.Ppp.{Ppp}
 
 -- every definition that a turn goes through
 unfoldable opened : Unit {0}
-unfolding beFrom beBytes same pktOf walkIn walkFrom ownNacked nacksOf listedOf stepOf replyOf requested ackOf reqWith reqOf nackWith nackOf termAckOf ignoreOf echoOf actOf handleOf openedFsm protocolRejectOf rejectOf receivedOf establishOf authOf networkOf phaseOf turnOf
+unfolding beFrom beBytes same pktOf walkIn walkFrom ownNacked nacksOf listedOf stepOf replyOf requested ackOf reqWith reqOf nackWith nackOf termAckOf ignoreOf echoOf actOf handleOf openedFsm protocolRejectOf closedAuth rejectOf receivedOf establishOf authOf networkOf phaseOf turnOf
 opened = tt
 
 id-byte : (i : ℕ) → nextId i < 256
@@ -55,7 +56,7 @@ deny-small i d e m n hi = ip-small 4 i 0 d e true m n (omega arith) hi
 -- a link in phase Dead with LCP Closed, whatever the rest
 abbrev dead : Ppp → Ppp
 dead p =
-    record { phase = Dead; opening = p .opening; lcp = record { id = p .lcp .id; state = Closed; proto = p .lcp .proto }; pap = p .pap; ipv4cp = p .ipv4cp }
+    record { phase = Dead; opening = p .opening; lcp = record { id = p .lcp .id; state = Closed; proto = p .lcp .proto }; auth = p .auth; ipv4cp = p .ipv4cp }
 
 begins-dead : (p : Ppp) → pollOf (openOf (dead p) .ppp)
     ≡ pppTurned (begun (selfOf p) (p .ipv4cp .proto .«dns_server_1» .«is_rejected») (p .ipv4cp .proto .«dns_server_2» .«is_rejected»)) (hello (selfOf p) ∷ [])
@@ -65,7 +66,7 @@ begins-dead p = refl
 pub begins : (p : Ppp) → p .phase ≡ Dead → p .lcp .state ≡ Closed → pollOf (openOf p .ppp)
     ≡ pppTurned (begun (selfOf p) (p .ipv4cp .proto .«dns_server_1» .«is_rejected») (p .ipv4cp .proto .«dns_server_2» .«is_rejected»)) (hello (selfOf p) ∷ [])
 begins p e f =
-    let same : p ≡ dead p = λ i. record { phase = e i; opening = p .opening; lcp = record { id = p .lcp .id; state = f i; proto = p .lcp .proto }; pap = p .pap; ipv4cp = p .ipv4cp } in
+    let same : p ≡ dead p = λ i. record { phase = e i; opening = p .opening; lcp = record { id = p .lcp .id; state = f i; proto = p .lcp .proto }; auth = p .auth; ipv4cp = p .ipv4cp } in
     ap (λ (q : Ppp). pollOf (openOf q .ppp)) same ∙ begins-dead p
 
 -- ---- LCP

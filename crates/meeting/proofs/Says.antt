@@ -9,7 +9,7 @@ use Rattle.laws.specs.Each.{Bytes}
 use Rattle.options.specs.Options.{optBytes}
 use Rattle.options.specs.Wire.{packetOf}
 use Rattle.negotiation.specs.Messages.{nextId}
-use Rattle.negotiation.specs.Pap.{withPapState}
+use Rattle.negotiation.specs.Auth.{closedAuth}
 use Rattle.phases.specs.Phases.{pppTurned, turnOf}
 use Rattle.phases.specs.Sound.{Calm}
 use Rattle.options.specs.declared.lcp.AuthType.{AuthType}
@@ -17,8 +17,7 @@ use Rattle.options.specs.declared.lcp.AuthType.the-variants.{None}
 use Rattle.options.specs.declared.ipv4cp.IpOption.{IpOption}
 use Rattle.negotiation.specs.declared.states.State.{State}
 use Rattle.negotiation.specs.declared.states.State.the-variants.{Closed, ReqSent, AckSent, Opened}
-use Rattle.negotiation.specs.declared.pap.Pap.{Pap}
-use Rattle.negotiation.specs.declared.pap.PapState.the-variants as PapState
+use Rattle.negotiation.specs.declared.auth.Auth.{Auth}
 use Rattle.phases.specs.declared.ppp.Phase.{Phase}
 use Rattle.phases.specs.declared.ppp.Phase.the-variants.{Establish}
 use Rattle.phases.specs.declared.ppp.Ppp.{Ppp}
@@ -32,7 +31,7 @@ pub record Self : Type 0 where
   pub remote : ℕ
   pub map : ℕ
   pub mapRej : Bool
-  pub pap : Pap
+  pub authentication : Auth
   pub ipId : ℕ
   pub peer : ℕ
   pub address : ℕ
@@ -48,7 +47,7 @@ selfOf p =
       remote = p .lcp .proto .«asyncmap_remote»;
       map = p .lcp .proto .asyncmap;
       mapRej = p .lcp .proto .«asyncmap_rej»;
-      pap = p .pap;
+      authentication = p .auth;
       ipId = p .ipv4cp .id;
       peer = p .ipv4cp .proto .«peer_address»;
       address = p .ipv4cp .proto .address .address;
@@ -103,7 +102,7 @@ ipAt X i s p m n =
     }
 
 abbrev pub end : Self → Phase → LcpFsm → Ipv4cpFsm → Ppp
-end X f l i = record { phase = f; opening = false; lcp = l; pap = withPapState (X .pap) PapState.Closed; ipv4cp = i }
+end X f l i = record { phase = f; opening = false; lcp = l; auth = closedAuth (X .authentication); ipv4cp = i }
 
 -- after `open` and one phase step
 abbrev pub begun : Self → Bool → Bool → Ppp

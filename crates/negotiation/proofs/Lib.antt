@@ -1,4 +1,6 @@
+pub mod Auths
 pub mod Automata
+pub mod CredentialLaws
 pub mod Joining
 pub mod Lengths
 pub mod Paps

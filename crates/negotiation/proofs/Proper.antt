@@ -20,6 +20,7 @@ use Rattle.options.specs.declared.refusal.Refusal.the-variants.{ConfigureShort,
 use Rattle.options.specs.Refusal.{isDone}
 use Rattle.options.specs.Wire.{lengthField}
 use Rattle.options.specs.Options.{walkOf}
+use Rattle.options.specs.Proto.{protocolOf}
 use Rattle.options.proofs.Fair.{Short, Fair, fair-answer, nacks-kind}
 use Rattle.negotiation.specs.declared.option_fsm.OptionFsm.{OptionFsm}
 use Rattle.negotiation.specs.declared.states.State.the-variants.{ReqSent}

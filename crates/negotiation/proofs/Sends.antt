@@ -10,6 +10,7 @@ use Rattle.laws.specs.Each.{Each}
 use Rattle.laws.proofs.Cases.{cond-all}
 use Rattle.laws.proofs.Each.{each-append}
 use Rattle.negotiation.specs.declared.option_fsm.OptionFsm.{OptionFsm}
+use Rattle.negotiation.specs.declared.credentials.Credentials.{Credentials}
 use Rattle.negotiation.specs.declared.pap.Pap.{Pap}
 use Rattle.negotiation.specs.declared.pap.PapState.the-variants.{ReqSent}
 use Rattle.options.specs.Wire.{lengthField}
@@ -43,19 +44,19 @@ module _ (f : OptionFsm) where
   pub opened-sends : Sends 1 (openedFsm f .sent)
   opened-sends = record { few = omega (arith, opened-one f); short = proper-opened f .short }
 
-module _ (p : Pap) where
-  pub pap-sends : (pkt : List ℕ) → Sends 2 (papHandleOf p pkt .sent)
+module _ (c : Credentials) (p : Pap) where
+  pub pap-sends : (pkt : List ℕ) → Sends 2 (papHandleOf c p pkt .sent)
   unfolding papHandleOf papActOf papRequested
   pap-sends pkt =
       let P : PapTurn → Type 0 = λ t. Sends 2 (t .sent) in
       let none = sends-none 2 in
-      let c = getD pkt 2 0 in
+      let code = getD pkt 2 0 in
       let s = isPapSent (p .state) in
       cond-all P (ltb (length pkt) 6) none
       (cond-all P (ltb (length pkt) (lengthField pkt)) none
       (cond-all P (ltb (length pkt) (lengthField pkt + 2)) none
-      (cond-all P (s && eqb c 2) none (cond-all P (s && eqb c 3) (sends-one 1 (papBytes p) (pap-short p)) none))))
+      (cond-all P (s && eqb code 2) none (cond-all P (s && eqb code 3) (sends-one 1 (papBytes c p) (pap-short c p)) none))))
 
-  pub pap-opened-sends : Sends 1 (openedPap p .sent)
+  pub pap-opened-sends : Sends 1 (openedPap c p .sent)
   unfolding openedPap papRequested
-  pap-opened-sends = let q = withPapState p ReqSent in sends-one 0 (papBytes q) (pap-short q)
+  pap-opened-sends = let q = withPapState p ReqSent in sends-one 0 (papBytes c q) (pap-short c q)

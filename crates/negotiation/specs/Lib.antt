@@ -2,4 +2,6 @@ pub mod Replies
 pub mod Messages
 pub mod Automaton
 pub mod StateTable
+pub mod Credentials
 pub mod Pap
+pub mod Auth

@@ -1,12 +1,13 @@
-// The password authentication protocol (RFC 1334). Name and password lie one behind the other in 120 bytes.
+// The password authentication protocol (RFC 1334), over the credentials that it is handed.
 ghost use mathlib.Core.Path.{_≡_};
 ghost use mathlib.Core.List.{[]};
 ghost use Prim.Native.Nat.{_+_, _≤_};
 ghost use lib.ListN.{length};
-ghost use lib.Seq.{sets};
 ghost use Rattle.options.specs.Wire.{pktOf, packetOf};
-ghost use Rattle.negotiation.specs.Pap.{isPapSent, isPapOpened, fitsCredentials, papWith, freshPap, credentialBytes, papBytes, withPapState, steppedPap, papHandled, papTurned, papRequested, papActOf, papHandleOf, openedPap};
+ghost use Rattle.negotiation.specs.Pap.{isPapSent, isPapOpened, freshPap, credentialBytes, papBytes, withPapState, steppedPap, papHandled, papTurned, papRequested, papActOf, papHandleOf, openedPap, isPapClosed};
 use crate::messages::next_id;
+ghost use Rattle.negotiation.specs.Credentials.{maxCredentials};
+use crate::credentials::Credentials;
 use crate::replies::Replies;
 use crate::replies::emit_packet;
 use options::refusal::Outcome;
@@ -27,9 +28,6 @@ pub enum PapState {
 pub struct Pap {
     pub state: PapState,
     pub id: u8,
-    pub username_len: usize,
-    pub password_len: usize,
-    pub bytes: [u8; 120],
 }
 
 pub struct PapHandled {
@@ -48,7 +46,17 @@ fn is_sent(s: PapState) -> bool
     }
 }
 
-pub fn is_pap_opened(s: PapState) -> bool
+pub(crate) fn is_pap_closed(s: PapState) -> bool
+    ensures { λ r. ⌜ r ≡ isPapClosed s ⌝ }
+{
+    match s {
+        PapState::Closed => true,
+        PapState::ReqSent => false,
+        PapState::Opened => false,
+    }
+}
+
+pub(crate) fn is_pap_opened(s: PapState) -> bool
     ensures { λ r. ⌜ r ≡ isPapOpened s ⌝ }
 {
     match s {
@@ -58,50 +66,22 @@ pub fn is_pap_opened(s: PapState) -> bool
     }
 }
 
-pub fn is_within(n: usize, m: usize) -> bool
-    ensures { λ r. ⌜ r ≡ fitsCredentials n m ⌝ }
-{
-    if 120 < n {
-        return false;
-    }
-    m <= 120 - n
-}
-
 impl Pap {
-    // A fresh one; name and password above 120 bytes together are left out.
-    pub fn new(username: &[u8], password: &[u8]) -> Self
-        ensures { λ r. ⌜ r ≡ freshPap (now (username .entry)) (now (password .entry)) ⌝ }
+    pub(crate) fn new() -> Self
+        ensures { λ r. ⌜ r ≡ freshPap ⌝ }
     {
-        if is_within(username.len(), password.len()) {
-            return Pap::with(username, password);
-        }
-        Pap::with(&username[..0], &password[..0])
-    }
-
-    fn with(username: &[u8], password: &[u8]) -> Self
-        requires { ⌜ length (now username) + length (now password) ≤ 120 ⌝ }
-        ensures { λ r. ⌜ r ≡ papWith (now (username .entry)) (now (password .entry)) ⌝ }
-    {
-        let bytes = place(place([0; 120], 0, username), username.len(), password);
         Pap {
             state: PapState::Closed,
             id: 1,
-            username_len: username.len(),
-            password_len: password.len(),
-            bytes,
         }
     }
 
     fn with_state(self, s: PapState) -> Self
         ensures { λ r. ⌜ r ≡ withPapState self s ⌝ }
     {
-        let bytes = self.bytes;
         Pap {
             state: s,
             id: self.id,
-            username_len: self.username_len,
-            password_len: self.password_len,
-            bytes,
         }
     }
 
@@ -109,37 +89,28 @@ impl Pap {
         ensures { λ r. ⌜ r ≡ steppedPap self ⌝ }
     {
         let s = self.state;
-        let bytes = self.bytes;
         Pap {
             state: s,
             id: next_id(self.id),
-            username_len: self.username_len,
-            password_len: self.password_len,
-            bytes,
         }
     }
 
-    fn request_packet(self) -> Packet
-        ensures { λ r. ⌜ r ≡ pktOf (papBytes self) ⌝ }
+    fn request_packet(self, c: Credentials) -> Packet
+        ensures { λ r. ⌜ r ≡ pktOf (papBytes c self) ⌝ }
     {
-        let n = self.username_len;
-        let m = self.password_len;
-        let bytes = self.bytes;
         let id = next_id(self.id);
+        let bytes = c.bytes;
         let all = &bytes[..];
-        if is_within(n, m) {
-            return credentials_packet(id, &all[..n], &all[n..n + m]);
-        }
-        credentials_packet(id, &all[..0], &all[..0])
+        credentials_packet(id, c.name(all), c.password(all))
     }
 
-    fn send_configure_request(self) -> PapHandled
-        ensures { λ h. ⌜ h ≡ papHandled (papRequested self) ⌝ }
+    fn send_configure_request(self, c: Credentials) -> PapHandled
+        ensures { λ h. ⌜ h ≡ papHandled (papRequested c self) ⌝ }
     {
         PapHandled {
             outcome: Outcome::Done,
             pap: self.stepped(),
-            replies: Replies::none().add(self.request_packet()),
+            replies: Replies::none().add(self.request_packet(c)),
         }
     }
 
@@ -153,8 +124,8 @@ impl Pap {
         }
     }
 
-    fn act(self, code: u8) -> PapHandled
-        ensures { λ h. ⌜ h ≡ papHandled (papActOf self code) ⌝ }
+    fn act(self, c: Credentials, code: u8) -> PapHandled
+        ensures { λ h. ⌜ h ≡ papHandled (papActOf c self code) ⌝ }
     {
         let s = self.state;
         if !is_sent(s) {
@@ -164,13 +135,13 @@ impl Pap {
             return self.with_state(PapState::Opened).ignore();
         }
         if code == CONFIGURE_NACK {
-            return self.send_configure_request();
+            return self.send_configure_request(c);
         }
         self.ignore()
     }
 
-    pub fn handle(self, p: &[u8]) -> PapHandled
-        ensures { λ h. ⌜ h ≡ papHandled (papHandleOf self (now (p .entry))) ⌝ }
+    pub(crate) fn handle(self, c: Credentials, p: &[u8]) -> PapHandled
+        ensures { λ h. ⌜ h ≡ papHandled (papHandleOf c self (now (p .entry))) ⌝ }
     {
         if p.len() < 6 {
             return self.ignore();
@@ -186,39 +157,25 @@ impl Pap {
                 replies: Replies::none(),
             };
         }
-        self.act(p[2])
+        self.act(c, p[2])
     }
 
     // Whatever the state was.
-    pub fn open(self) -> PapHandled
-        ensures { λ h. ⌜ h ≡ papHandled (openedPap self) ⌝ }
+    pub(crate) fn open(self, c: Credentials) -> PapHandled
+        ensures { λ h. ⌜ h ≡ papHandled (openedPap c self) ⌝ }
     {
-        self.with_state(PapState::ReqSent).send_configure_request()
+        self.with_state(PapState::ReqSent).send_configure_request(c)
     }
 
-    pub fn close(self) -> Self
+    pub(crate) fn close(self) -> Self
         ensures { λ r. ⌜ r ≡ withPapState self PapState.Closed ⌝ }
     {
         self.with_state(PapState::Closed)
     }
 }
 
-// The bytes of `d` from index `at` on.
-fn place(bytes: [u8; 120], at: usize, d: &[u8]) -> [u8; 120]
-    requires { ⌜ at + length (now d) ≤ 120 ⌝ }
-    ensures { λ r. ⌜ r ≡ sets bytes at (now (d .entry)) ⌝ }
-{
-    let mut out = bytes;
-    let mut i = 0;
-    while i < d.len() {
-        out[at + i] = d[i];
-        i += 1;
-    }
-    out
-}
-
 fn credentials_packet(id: u8, username: &[u8], password: &[u8]) -> Packet
-    requires { ⌜ length (now username) + length (now password) ≤ 120 ⌝ }
+    requires { ⌜ length (now username) + length (now password) ≤ maxCredentials ⌝ }
     ensures { λ r. ⌜ r ≡ pktOf (packetOf 0xC023 1 id (credentialBytes (now (username .entry)) (now (password .entry)))) ⌝ }
 {
     let n = [username.len() as u8];

@@ -1,11 +1,11 @@
 -- The calls of pppos/mod.rs that are neither poll nor send: new, open, status and consume.
 -- Assumes nothing.
 use mathlib.Core.Path.{_≡_, refl, ap, sym, _∙_}
-use mathlib.Core.Bool.{true, false, cond}
+use mathlib.Core.Bool.{false, cond}
 use mathlib.Core.List.{List, []}
-use Prim.Native.Nat.{ℕ, _+_, _-_, _≤_, _<_}
+use Prim.Native.Nat.{ℕ, _+_, _≤_, _<_}
 use native.Mathlib.Omega.{arith}
-use borrow.Author.Tests.{le-leb, le-ltb, ltb-true}
+use borrow.Author.Tests.{le-ltb, ltb-true}
 use lib.Dec.{ltb, eqb, lit≤}
 use lib.ListN.{length}
 use Rattle.laws.specs.Each.{Bytes}
@@ -17,15 +17,15 @@ use Rattle.framing.specs.declared.frame_reader.Reading.the-variants.{Crate}
 use Rattle.framing.specs.declared.frame_reader.FrameReader.{FrameReader}
 use Rattle.negotiation.specs.Automaton.{isOpened}
 use Rattle.options.specs.Ipv4cp.{shown, shownIp}
-use Rattle.negotiation.specs.Pap.{fitsCredentials}
+use Rattle.negotiation.specs.Credentials.{fitsCredentials}
 use Rattle.phases.specs.Phases.{withPhase, newOf, openOf, statusOf}
 use Rattle.options.specs.declared.ipv4cp.IpOption as ip
 use Rattle.phases.specs.declared.ppp.Phase.{Phase}
 use Rattle.phases.specs.declared.ppp.Phase.the-variants.{Dead, Establish, Auth, Network, Open}
 use Rattle.phases.specs.declared.ppp.Ppp.{Ppp}
-use Rattle.negotiation.proofs.Paps.{fits-sum, credentials-held}
 use Rattle.link.specs.Choices.{choicesOf, Plain}
 use Rattle.link.specs.Link.{linkOf, Changes, Makes, Opens, Consumes}
+use Rattle.negotiation.proofs.CredentialLaws.{fits-sum, sum-fits, credentials-held}
 use Rattle.link.specs.Refusal.{outcomeNumber}
 use Rattle.link.specs.declared.refusal.Refusal.the-variants.{Negotiation}
 use Rattle.options.specs.declared.refusal.Refusal.the-variants.{CredentialsLong}
@@ -103,9 +103,6 @@ made name password =
       ppp = record { phase = ppp.Dead; opening = false; lcp = newFsm lcpProtocol newLcp; pap = record { state = PapClosed; id = 1; username = name; password = password }; ipv4cp = newFsm ipv4cpProtocol newIpv4cp };
     }
 
-fits-is : (n m : ℕ) → n + m ≤ 120 → fitsCredentials n m ≡ true
-fits-is n m h = rw (le-leb n 120 (omega arith), le-leb m (120 - n) (omega arith)) refl
-
 fits-not : (n m : ℕ) → 120 < n + m → fitsCredentials n m ≡ false
 fits-not n m h = by-test (fitsCredentials n m) (λ t. absurd (omega (arith, fits-sum n m t))) (λ t. t)
 
@@ -113,7 +110,7 @@ fresh-is : (name password : List ℕ) (k : Reading) → length name + length pas
     → theirs.newLink name password ≡ returns (viewLink (linkOf (reader.freshReader k) (newOf name password .ppp)))
 fresh-is name password k h =
     let held = credentials-held name password h in
-    rw (le-ltb 255 (length name) (omega arith), le-ltb 255 (length password) (omega arith), fits-is (length name) (length password) h, held .0, held .1) refl
+    rw (le-ltb 255 (length name) (omega arith), le-ltb 255 (length password) (omega arith), sum-fits (length name) (length password) h, held .0, held .1) refl
 
 module _ (name password : List ℕ) (k : Choices) {o : Outcome} {l : PPPoS} (c : Makes name password k o l) where
   fresh : k .reading ≡ Crate → l .«frame_reader» .reading ≡ Crate
@@ -121,7 +118,7 @@ module _ (name password : List ℕ) (k : Choices) {o : Outcome} {l : PPPoS} (c :
 
   pub new-fits : k .reading ≡ Crate → length name + length password ≤ 120 → (o ≡ Done) × (theirs.newLink name password ≡ returns (viewLink l)) × (l .«frame_reader» .reading ≡ Crate)
   new-fits crate h =
-      (c .outcome ∙ rw (fits-is (length name) (length password) h) refl, fresh-is name password (k .reading) h ∙ ap returns (sym (ap viewLink (c .link))), fresh crate)
+      (c .outcome ∙ rw (sum-fits (length name) (length password) h) refl, fresh-is name password (k .reading) h ∙ ap returns (sym (ap viewLink (c .link))), fresh crate)
 
   pub new-over : k .reading ≡ Crate → 120 < length name + length password → (o ≡ Refused (Negotiation CredentialsLong)) × (theirs.newLink [] [] ≡ returns (viewLink l)) × (l .«frame_reader» .reading ≡ Crate)
   new-over crate h =

@@ -1,13 +1,13 @@
 -- What a link keeps, from new on under every call.
 -- Assumes nothing.
 use mathlib.Core.Path.{_≡_, refl, ap, sym, _∙_}
-use mathlib.Core.Bool.{true, false, true≢false, false≢true, _&&_}
+use mathlib.Core.Bool.{true, false, true≢false, false≢true}
 use mathlib.Core.List.{List, [], _++_}
 use Prim.Native.Nat.{ℕ, zero, suc, _+_, _-_, _≤_, _<_}
 use native.Mathlib.Omega.{arith}
 use borrow.Author.Tests.{le-leb, lt-ltb}
 use lib.Dec.{ltb, leb, eqb, lit<, lit≤}
-use lib.ListN.{length, getD, drop, replicate, length-append, length-replicate}
+use lib.ListN.{length, drop, replicate, length-append, length-replicate}
 use Rattle.laws.specs.Each.{Bytes}
 use Rattle.laws.proofs.Each.{each-append}
 use Rattle.laws.proofs.Cases.{by-le, cond-by, cond-all}
@@ -16,14 +16,13 @@ use Rattle.framing.specs.declared.frame_reader.FrameReader.{FrameReader}
 use Rattle.framing.specs.declared.frame_reader.Reading.the-variants.{Crate}
 use Rattle.framing.proofs.Reader.{fresh-framed, consumed-framed}
 use Rattle.options.specs.Refusal.{isDone}
-use Rattle.options.specs.Wire.{protocolIn, lengthField}
+use Rattle.options.specs.Wire.{protocolIn}
 use Rattle.options.specs.declared.lcp.AuthType.{AuthType}
 use Rattle.options.specs.declared.lcp.AuthType.the-variants as authType
 use Rattle.negotiation.specs.Automaton.{isClosed, isOpened}
-use Rattle.negotiation.specs.Pap.{fitsCredentials, withPapState, steppedPap, isPapSent, isPapOpened, PapTurn, papRequested, papActOf, papHandleOf, openedPap}
-use Rattle.negotiation.specs.declared.pap.Pap.{Pap}
-use Rattle.negotiation.specs.declared.pap.PapState.the-variants as papState
-use Rattle.negotiation.proofs.Paps.{fits-sum}
+use Rattle.negotiation.specs.Credentials.{maxCredentials, fitsCredentials}
+use Rattle.negotiation.specs.Auth.{isAuthOpened, authHandleOf, openedAuth, closedAuth}
+use Rattle.negotiation.proofs.CredentialLaws.{fits-sum}
 use Rattle.phases.specs.Phases.{freshPpp, withPhase, withOpening, PppTurn, Step, rejectOf, receivedOf, byAuth, establishOf, authOf, networkOf, byPhase, diesOf, settled, phaseOf, pollOf, turnOf, isDead, newOf}
 use Rattle.phases.specs.declared.ppp.Phase.{Phase}
 use Rattle.phases.specs.declared.ppp.Phase.the-variants.{Dead, Establish, Auth, Network, Open}
@@ -37,7 +36,7 @@ use Rattle.link.proofs.Chosen.{makes-chosen, opens-keeps, consumes-keeps, polls
 use Rattle.original.specs.Run.{Run}
 use Rattle.original.specs.Ppp as ppp
 use Rattle.original.specs.View.{viewPpp}
-use Rattle.original.specs.Domain.{Lasting, Whole, Lasts, AllLast}
+use Rattle.original.specs.Domain.{Lasting, Lasts, AllLast, CredentialsFit}
 use Rattle.original.proofs.Bytes.{each-take, each-drop}
 use Rattle.original.proofs.Received.{Held, SameReceived, same, long, stops, received-same}
 use Rattle.original.proofs.Opening as opening
@@ -81,27 +80,14 @@ module _ (P : PPPoS → Type 0) (fetch : (r : FrameReader) (p : Ppp) → P (link
 
 -- ---- a received packet
 
-again : {p : Pap} (q : Pap) → Whole p → q .bytes ≡ p .bytes → q .«username_len» ≡ p .«username_len» → q .«password_len» ≡ p .«password_len» → Whole q
-again q w b n m = record { array = ap length b ∙ w .array; fits = rw (n, m) (w .fits) }
-
-pap-whole : (p : Pap) (pkt : List ℕ) → Whole p → Whole (papHandleOf p pkt .pap)
-unfolding papHandleOf papActOf papRequested
-pap-whole p pkt w =
-    let P : PapTurn → Type 0 = λ t. Whole (t .pap) in
-    let c = getD pkt 2 0 in
-    cond-all P (ltb (length pkt) 6) w
-    (cond-all P (ltb (length pkt) (lengthField pkt)) w
-    (cond-all P (ltb (length pkt) (lengthField pkt + 2)) w
-    (cond-all P (isPapSent (p .state) && eqb c 2) (again (withPapState p papState.Opened) w refl refl refl)
-    (cond-all P (isPapSent (p .state) && eqb c 3) (again (steppedPap p) w refl refl refl) w))))
-
-received-whole : (p : Ppp) (pkt : List ℕ) → Whole (p .pap) → Whole (receivedOf p pkt .ppp .pap)
-unfolding receivedOf rejectOf
-received-whole p pkt w =
-    let P : PppTurn → Type 0 = λ t. Whole (t .ppp .pap) in
+-- no packet changes the credentials
+received-fit : (p : Ppp) (pkt : List ℕ) → CredentialsFit (p .auth .credentials) → CredentialsFit (receivedOf p pkt .ppp .auth .credentials)
+unfolding receivedOf rejectOf authHandleOf
+received-fit p pkt w =
+    let P : PppTurn → Type 0 = λ t. CredentialsFit (t .ppp .auth .credentials) in
     let n = protocolIn pkt in
     cond-all P (ltb (length pkt) 2) w
-    (cond-all P (eqb n 0xC021) w (cond-all P (eqb n 0xC023) (pap-whole (p .pap) pkt w) (cond-all P (eqb n 0x0021) w (cond-all P (eqb n 0x8021) w w))))
+    (cond-all P (eqb n 0xC021) w (cond-all P (eqb n 0xC023) w (cond-all P (eqb n 0x0021) w (cond-all P (eqb n 0x8021) w w))))
 
 -- a packet that is not refused
 received-held : (p : Ppp) (pkt : List ℕ) → Held p → Bytes pkt → isIp pkt ≡ false → isDone (receivedOf p pkt .outcome) ≡ true → Held (receivedOf p pkt .ppp)
@@ -125,25 +111,25 @@ phase-held p h = go (ppp.pollPpp (viewPpp p)) (phase-same p h)
     go x (opening.same steps) = steps .held
     go x (opening.asserts unready a run steps) = steps .held
 
-settled-whole : (p : Ppp) → Whole (p .pap) → Whole (settled p .pap)
-settled-whole p w = cond-all (λ (x : Ppp). Whole (x .pap)) (diesOf p) w w
+settled-fit : (p : Ppp) → CredentialsFit (p .auth .credentials) → CredentialsFit (settled p .auth .credentials)
+settled-fit p w = cond-all (λ (x : Ppp). CredentialsFit (x .auth .credentials)) (diesOf p) w w
 
-phase-whole : (p : Ppp) → Whole (p .pap) → Whole (phaseOf p .ppp .pap)
-unfolding phaseOf establishOf authOf networkOf openedPap papRequested
-phase-whole p w = settled-whole (byPhase (p .phase) p .ppp) (go (p .phase))
+phase-fit : (p : Ppp) → CredentialsFit (p .auth .credentials) → CredentialsFit (phaseOf p .ppp .auth .credentials)
+unfolding phaseOf establishOf authOf networkOf openedAuth closedAuth
+phase-fit p w = settled-fit (byPhase (p .phase) p .ppp) (go (p .phase))
   where
     P : Step → Type 0
-    P s = Whole (s .ppp .pap)
+    P s = CredentialsFit (s .ppp .auth .credentials)
 
     auth : (a : AuthType) → P (byAuth a p)
     auth authType.None = w
-    auth authType.Pap = again _ w refl refl refl
+    auth authType.Pap = w
 
     go : (f : Phase) → P (byPhase f p)
     go Dead = w
-    go Establish = cond-all P (isClosed (p .lcp .state)) (again _ w refl refl refl) (cond-all P (isOpened (p .lcp .state)) (auth (p .lcp .proto .auth)) (again _ w refl refl refl))
-    go Auth = cond-all P (isPapOpened (p .pap .state)) w w
-    go Network = cond-all (λ (x : Ppp). Whole (x .pap)) (isOpened (p .ipv4cp .state)) w w
+    go Establish = cond-all P (isClosed (p .lcp .state)) w (cond-all P (isOpened (p .lcp .state)) (auth (p .lcp .proto .auth)) w)
+    go Auth = cond-all P (isAuthOpened (p .auth)) w w
+    go Network = cond-all (λ (x : Ppp). CredentialsFit (x .auth .credentials)) (isOpened (p .ipv4cp .state)) w w
     go Open = w
 
 -- ---- the three
@@ -167,12 +153,12 @@ held-lasts =
     lasts-by (λ l. Held (l .ppp)) (λ r p k. k) (λ r p k. phase-held p k) (λ r p pkt bytes other done k. received-held p pkt k bytes other done)
     (λ name password c b d _.
     let both = name ++ password in
-    let filled = each-append (λ x. x < 256) both (replicate (120 - length both) 0) (each-append (λ x. x < 256) name password b d) (zeros (120 - length both)) in
-    record { lcp-id = lit< tt; ipv4cp-id = lit< tt; pap = record { id = lit< tt; bytes = filled } })
-    (λ r p k. record { lcp-id = k .lcp-id; ipv4cp-id = k .ipv4cp-id; pap = k .pap }) (λ l rx bs k. k)
+    let filled = each-append (λ x. x < 256) both (replicate (maxCredentials - length both) 0) (each-append (λ x. x < 256) name password b d) (zeros (maxCredentials - length both)) in
+    record { lcp-id = lit< tt; ipv4cp-id = lit< tt; auth = record { id = lit< tt; bytes = filled } })
+    (λ r p k. record { lcp-id = k .lcp-id; ipv4cp-id = k .ipv4cp-id; auth = k .auth }) (λ l rx bs k. k)
 
 lasting-by : {l : PPPoS} → Plain (choicesOf l) × (choicesOf l .reading ≡ Crate) → Held (l .ppp) → Lasting l
-lasting-by c h = record { plain = c .0; crate-reading = c .1; lcp-id = h .lcp-id; ipv4cp-id = h .ipv4cp-id; pap-id = h .pap .id; credentials = h .pap .bytes }
+lasting-by c h = record { plain = c .0; crate-reading = c .1; lcp-id = h .lcp-id; ipv4cp-id = h .ipv4cp-id; pap-id = h .auth .id; credentials = h .auth .bytes }
 
 lasting-lasts : Lasts Lasting
 lasting-lasts =
@@ -183,13 +169,13 @@ lasting-lasts =
       poll = λ l tx rx b k x. lasting-by (chosen-lasts .poll l tx rx b (k .plain, k .crate-reading) x) (held-lasts .poll l tx rx b (lasting-held k) x);
     }
 
-whole-lasts : Lasts (λ l. Whole (l .ppp .pap))
-whole-lasts =
-    lasts-by (λ l. Whole (l .ppp .pap)) (λ r p w. w) (λ r p w. phase-whole p w) (λ r p pkt _ _ _ w. received-whole p pkt w)
+fit-lasts : Lasts (λ l. CredentialsFit (l .ppp .auth .credentials))
+fit-lasts =
+    lasts-by (λ l. CredentialsFit (l .ppp .auth .credentials)) (λ r p w. w) (λ r p w. phase-fit p w) (λ r p pkt _ _ _ w. received-fit p pkt w)
     (λ name password c _ _ h.
     let both = name ++ password in
     record {
-      array = omega (arith, length-append name password, h, length-append both (replicate (120 - length both) 0), length-replicate {A = ℕ} (120 - length both) 0);
+      array = omega (arith, length-append name password, h, length-append both (replicate (maxCredentials - length both) 0), length-replicate {A = ℕ} (maxCredentials - length both) 0);
       fits = h;
     })
     (λ r p w. w) (λ l rx bs w. w)
@@ -200,4 +186,4 @@ framed-lasts =
     (λ l rx bs k. consumed-framed (heldBy l rx) bs k)
 
 pub all-last : AllLast
-all-last = record { lasting = lasting-lasts; whole = whole-lasts; framed = framed-lasts }
+all-last = record { lasting = lasting-lasts; credentials-fit = fit-lasts; framed = framed-lasts }

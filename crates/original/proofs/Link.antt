@@ -32,7 +32,7 @@ use Rattle.original.proofs.Refused.{refused-at}
 use Rattle.original.proofs.Polls.{mid, other-protocols, refused-is, received-same}
 
 pub lasting-held : {l : PPPoS} → Lasting l → received.Held (l .ppp)
-lasting-held p = record { lcp-id = p .lcp-id; ipv4cp-id = p .ipv4cp-id; pap = record { id = p .pap-id; bytes = p .credentials } }
+lasting-held p = record { lcp-id = p .lcp-id; ipv4cp-id = p .ipv4cp-id; auth = record { id = p .pap-id; bytes = p .credentials } }
 
 module _ (l : PPPoS) (tx rx : List ℕ) (d : InDomain l rx) (framed : Framed (l .«frame_reader»)) where
   abbrev to : ℕ

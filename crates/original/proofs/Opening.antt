@@ -7,7 +7,7 @@ use Prim.Native.Nat.{ℕ}
 use Rattle.laws.proofs.Cases.{cond-ap, cond-all}
 use Rattle.negotiation.specs.Messages.{nextId}
 use Rattle.negotiation.specs.Automaton.{isClosed}
-use Rattle.negotiation.specs.Pap as pap
+use Rattle.negotiation.specs.Auth.{isAuthOpened, closedAuth}
 use Rattle.phases.specs.Phases as ours
 use Rattle.options.specs.declared.lcp.Lcp as lcp
 use Rattle.options.specs.declared.ipv4cp.Ipv4cp as ipv4cp
@@ -15,6 +15,7 @@ use Rattle.options.specs.declared.proto.Proto.the-variants as proto
 use Rattle.negotiation.specs.declared.states.State.{State}
 use Rattle.negotiation.specs.declared.states.State.the-variants.{Closed, ReqSent, AckReceived, AckSent, Opened}
 use Rattle.negotiation.specs.declared.pap.PapState as papState
+use Rattle.negotiation.specs.declared.auth.Auth as auth
 use Rattle.phases.specs.declared.ppp.Phase.the-variants.{Dead}
 use Rattle.phases.specs.declared.ppp.Ppp as ppp
 use Rattle.phases.proofs.Sounds.{Ready}
@@ -64,26 +65,31 @@ pub opens-not : {P : Type 0} (T : fsm.Protocol P) (f : fsm.OptionFsm P) → fsm.
 unfolding fsm.openFsm
 opens-not T f e = rw e refl
 
-pub pap-opened-is : (s : papState.PapState) → isPapOpened (viewPapState s) ≡ pap.isPapOpened s
-pap-opened-is papState.the-variants.Closed = refl
-pap-opened-is papState.the-variants.ReqSent = refl
-pap-opened-is papState.the-variants.Opened = refl
+pub auth-opened-is : (a : auth.Auth) → isPapOpened (viewPapState (a .pap .state)) ≡ isAuthOpened a
+unfolding isAuthOpened
+auth-opened-is a = go (a .pap .state) refl
+  where
+    go : (s : papState.PapState) → a .pap .state ≡ s → isPapOpened (viewPapState (a .pap .state)) ≡ isAuthOpened a
+    go papState.the-variants.Closed e = rw e refl
+    go papState.the-variants.ReqSent e = rw e refl
+    go papState.the-variants.Opened e = rw e refl
 
 settle-is : (q : ppp.Ppp) → theirs.settle (viewPpp q) ≡ viewPpp (ours.settled q)
 settle-is q = rw (closed-is (q .lcp .state)) (sym (cond-ap viewPpp (isClosed (q .lcp .state) && not (q .opening)) (ours.withPhase q Dead) q))
 
 settled-held : (q : ppp.Ppp) → Held q → Held (ours.settled q)
-settled-held q h = cond-all Held (isClosed (q .lcp .state) && not (q .opening)) (record { lcp-id = h .lcp-id; ipv4cp-id = h .ipv4cp-id; pap = h .pap }) h
+settled-held q h = cond-all Held (isClosed (q .lcp .state) && not (q .opening)) (record { lcp-id = h .lcp-id; ipv4cp-id = h .ipv4cp-id; auth = h .auth }) h
 
 -- where a step before the last test has come to
 pub ends : (q : ppp.Ppp) {tx : List Packet} {sent : List (List ℕ)} → Held q → Carried tx sent
     → Steps (record { ppp = theirs.settle (viewPpp q); tx = tx }) (ours.stepTo (ours.settled q) sent)
 ends q h c = record { ppp = settle-is q; held = settled-held q h; carried = c }
 
-shut-pap : (q : ppp.Ppp) → theirs.shutPap (viewPpp q) ≡ viewPpp (ours.closesPap q)
-shut-pap q = go (q .pap .state) refl
+shut-pap : (q : ppp.Ppp) → theirs.shutPap (viewPpp q) ≡ viewPpp (ours.closesAuth q)
+unfolding closedAuth
+shut-pap q = go (q .auth .pap .state) refl
   where
-    go : (s : papState.PapState) → q .pap .state ≡ s → theirs.shutPap (viewPpp q) ≡ viewPpp (ours.closesPap q)
+    go : (s : papState.PapState) → q .auth .pap .state ≡ s → theirs.shutPap (viewPpp q) ≡ viewPpp (ours.closesAuth q)
     go papState.the-variants.Closed e = rw e refl
     go papState.the-variants.ReqSent e = rw e refl
     go papState.the-variants.Opened e = rw e refl
@@ -98,5 +104,5 @@ shut-ipv4cp q = go (q .ipv4cp .state) refl
     go AckSent e = rw e refl
     go Opened e = rw e refl
 
-pub shut-both : (q : ppp.Ppp) → theirs.shutIpv4cp (theirs.shutPap (viewPpp q)) ≡ viewPpp (ours.closesIpv4cp (ours.closesPap q))
-shut-both q = ap theirs.shutIpv4cp (shut-pap q) ∙ shut-ipv4cp (ours.closesPap q)
+pub shut-both : (q : ppp.Ppp) → theirs.shutIpv4cp (theirs.shutPap (viewPpp q)) ≡ viewPpp (ours.closesIpv4cp (ours.closesAuth q))
+shut-both q = ap theirs.shutIpv4cp (shut-pap q) ∙ shut-ipv4cp (ours.closesAuth q)

@@ -9,8 +9,8 @@ use lib.Dec.{lit<}
 use Rattle.laws.proofs.Cases.{apart, by-test}
 use Rattle.negotiation.specs.Messages.{nextId}
 use Rattle.negotiation.specs.Automaton.{isClosed, isOpened, requested, openedFsm}
-use Rattle.negotiation.specs.Pap as pap
 use Rattle.negotiation.specs.Pap.{openedPap, papRequested, withPapState, steppedPap}
+use Rattle.negotiation.specs.Auth.{authAfter, isAuthClosed, isAuthOpened, openedAuth, closedAuth}
 use Rattle.phases.specs.Phases as ours
 use Rattle.options.specs.declared.lcp.AuthType as auth
 use Rattle.options.specs.declared.lcp.Lcp as lcp
@@ -18,7 +18,7 @@ use Rattle.options.specs.declared.ipv4cp.Ipv4cp as ipv4cp
 use Rattle.options.specs.declared.proto.Proto.the-variants as proto
 use Rattle.negotiation.specs.declared.states.State.{State}
 use Rattle.negotiation.specs.declared.states.State.the-variants.{Closed, ReqSent, AckReceived, AckSent, Opened}
-use Rattle.negotiation.specs.declared.pap.Pap as papRecord
+use Rattle.negotiation.specs.declared.auth.Auth as authentication
 use Rattle.negotiation.specs.declared.pap.PapState as papState
 use Rattle.phases.specs.declared.ppp.Phase.{Phase}
 use Rattle.phases.specs.declared.ppp.Phase.the-variants.{Dead, Establish, Auth, Network, Open}
@@ -36,19 +36,19 @@ use Rattle.original.proofs.Handle.{closed-is, opened-is}
 use Rattle.original.proofs.Protocols.{lcp-stands, ipv4cp-stands}
 use Rattle.original.proofs.Pap as credentials
 use Rattle.original.proofs.Received.{Held}
-use Rattle.original.proofs.Opening.{Steps, SamePhase, same, asserts, lcpPacket, ipv4cpPacket, open-lcp, open-ipv4cp, opens-not, pap-opened-is, ends, shut-ipv4cp, shut-both}
+use Rattle.original.proofs.Opening.{Steps, SamePhase, same, asserts, lcpPacket, ipv4cpPacket, open-lcp, open-ipv4cp, opens-not, auth-opened-is, ends, shut-ipv4cp, shut-both}
 
 -- ---- by phase
 
-abbrev at : Phase → Bool → ℕ → State → lcp.Lcp → papRecord.Pap → ℕ → State → ipv4cp.Ipv4cp → ppp.Ppp
-at f o i s x c j t y = record { phase = f; opening = o; lcp = record { id = i; state = s; proto = x }; pap = c; ipv4cp = record { id = j; state = t; proto = y } }
+abbrev at : Phase → Bool → ℕ → State → lcp.Lcp → authentication.Auth → ℕ → State → ipv4cp.Ipv4cp → ppp.Ppp
+at f o i s x c j t y = record { phase = f; opening = o; lcp = record { id = i; state = s; proto = x }; auth = c; ipv4cp = record { id = j; state = t; proto = y } }
 
 next-small : (i : ℕ) → nextId i < 256
 next-small i = mod-lt (i + 1) {m = 256} (lit< tt)
 
-module _ (o : Bool) (i : ℕ) (s : State) (x : lcp.Lcp) (c : papRecord.Pap) (j : ℕ) (y : ipv4cp.Ipv4cp) (hi : i < 256) (hc : credentials.Held c) (hj : j < 256) where
+module _ (o : Bool) (i : ℕ) (s : State) (x : lcp.Lcp) (c : authentication.Auth) (j : ℕ) (y : ipv4cp.Ipv4cp) (hi : i < 256) (hc : credentials.Held c) (hj : j < 256) where
   any-held : (f : Phase) (o : Bool) (i j : ℕ) (s t : State) (x : lcp.Lcp) (y : ipv4cp.Ipv4cp) → i < 256 → j < 256 → Held (at f o i s x c j t y)
-  any-held f o i j s t x y h k = record { lcp-id = h; ipv4cp-id = k; pap = hc }
+  any-held f o i j s t x y h k = record { lcp-id = h; ipv4cp-id = k; auth = hc }
 
   abbrev Goal : Phase → State → Type 0
   Goal f t = SamePhase (at f o i s x c j t y) (theirs.pollPpp (viewPpp (at f o i s x c j t y)))
@@ -90,25 +90,25 @@ module _ (o : Bool) (i : ℕ) (s : State) (x : lcp.Lcp) (c : papRecord.Pap) (j :
   abbrev opened : theirs.Polled
   opened = record { ppp = theirs.settle (viewPpp (at Network o i s x c (nextId j) ReqSent y)); tx = ipv4cpPacket j y ∷ [] }
 
-  auth-opens : pap.isPapOpened (c .state) ≡ true → (t : State) → Goal Auth t
+  auth-opens : isAuthOpened c ≡ true → (t : State) → Goal Auth t
   unfolding theirs.pollPpp ours.phaseOf ours.authOf openedFsm requested
   auth-opens e =
-      opens Auth opened (rw (pap-opened-is (c .state), e, open-ipv4cp j y) refl)
-      (λ t k. rw (pap-opened-is (c .state), e, opens-not ipv4cpProtocol (record { id = j; state = viewState t; proto = viewIpv4cp y }) k) refl)
+      opens Auth opened (rw (auth-opened-is c, e, open-ipv4cp j y) refl)
+      (λ t k. rw (auth-opened-is c, e, opens-not ipv4cpProtocol (record { id = j; state = viewState t; proto = viewIpv4cp y }) k) refl)
       (λ t. rw e opened-steps) (λ t h. h .auth refl)
 
-  auth-waits : pap.isPapOpened (c .state) ≡ false → (t : State) → Goal Auth t
+  auth-waits : isAuthOpened c ≡ false → (t : State) → Goal Auth t
   unfolding theirs.pollPpp ours.phaseOf ours.authOf
   auth-waits e t =
       let q = at Auth o i s x c j Closed y in
       let steps : Steps (record { ppp = theirs.settle (viewPpp q); tx = [] }) (ours.phaseOf (at Auth o i s x c j t y)) = rw e (ends q (any-held Auth o i j s Closed x y hi hj) none) in
-      rw (pap-opened-is (c .state), e, shut-ipv4cp (at Auth o i s x c j t y)) (same steps)
+      rw (auth-opened-is c, e, shut-ipv4cp (at Auth o i s x c j t y)) (same steps)
 
   in-auth : (t : State) → Goal Auth t
-  in-auth t = by-test (pap.isPapOpened (c .state)) (λ e. auth-opens e t) (λ e. auth-waits e t)
+  in-auth t = by-test (isAuthOpened c) (λ e. auth-opens e t) (λ e. auth-waits e t)
 
 -- Establish, by LCP's state; LCP is taken apart for its auth
-module _ (o : Bool) (i : ℕ) (m n : ℕ) (b : Bool) (c : papRecord.Pap) (j : ℕ) (y : ipv4cp.Ipv4cp) (hi : i < 256) (hc : credentials.Held c) (hj : j < 256) where
+module _ (o : Bool) (i : ℕ) (m n : ℕ) (b : Bool) (c : authentication.Auth) (j : ℕ) (y : ipv4cp.Ipv4cp) (hi : i < 256) (hc : credentials.Held c) (hj : j < 256) where
   abbrev with : auth.AuthType → lcp.Lcp
   with a = record { auth = a; «asyncmap_remote» = m; asyncmap = n; «asyncmap_rej» = b }
 
@@ -116,24 +116,25 @@ module _ (o : Bool) (i : ℕ) (m n : ℕ) (b : Bool) (c : papRecord.Pap) (j : �
   Here s a t = SamePhase (at Establish o i s (with a) c j t y) (theirs.pollPpp (viewPpp (at Establish o i s (with a) c j t y)))
 
   -- no packet comes, and PAP and IPv4CP are shut
-  shuts : (s : State) (a : auth.AuthType) (t : State) → Held (ours.closesIpv4cp (ours.closesPap (at Establish o i s (with a) c j t y)))
-  shuts s a t = record { lcp-id = hi; ipv4cp-id = hj; pap = record { id = hc .id; bytes = hc .bytes } }
+  shuts : (s : State) (a : auth.AuthType) (t : State) → Held (ours.closesIpv4cp (ours.closesAuth (at Establish o i s (with a) c j t y)))
+  unfolding closedAuth
+  shuts s a t = record { lcp-id = hi; ipv4cp-id = hj; auth = record { id = hc .id; bytes = hc .bytes } }
 
   waits : (a : auth.AuthType) (s t : State) → isClosed s ≡ false → isOpened s ≡ false → Here s a t
   unfolding theirs.pollPpp ours.phaseOf ours.establishOf
   waits a s t e f =
       let p = at Establish o i s (with a) c j t y in
-      let q = ours.closesIpv4cp (ours.closesPap p) in
+      let q = ours.closesIpv4cp (ours.closesAuth p) in
       let steps : Steps (record { ppp = theirs.settle (viewPpp q); tx = [] }) (ours.phaseOf p) = rw (e, f) (ends q (shuts s a t) none) in
       rw (closed-is s, e, opened-is s, f, shut-both p) (same steps)
 
   -- LCP is opened
   starts : (a : auth.AuthType) (t : State) → Here Closed a t
-  unfolding theirs.pollPpp ours.phaseOf ours.establishOf openedFsm requested lcpPacket
+  unfolding theirs.pollPpp ours.phaseOf ours.establishOf closedAuth openedFsm requested lcpPacket
   starts a t =
       let p = at Establish false (nextId i) ReqSent (with a) c j t y in
       rw (open-lcp i (with a), shut-both p)
-      (same (ends (ours.closesIpv4cp (ours.closesPap p)) (record { lcp-id = next-small i; ipv4cp-id = hj; pap = record { id = hc .id; bytes = hc .bytes } })
+      (same (ends (ours.closesIpv4cp (ours.closesAuth p)) (record { lcp-id = next-small i; ipv4cp-id = hj; auth = record { id = hc .id; bytes = hc .bytes } })
       (more (request-carries lcpProtocol proto.Lcp viewLcp lcp-stands i (with a)) none)))
 
   none-opens : (t : State) → Here Opened auth.the-variants.None t
@@ -145,25 +146,28 @@ module _ (o : Bool) (i : ℕ) (m n : ℕ) (b : Bool) (c : papRecord.Pap) (j : �
       (λ t. opened-steps o i Opened x c j y hi hc hj) (λ t h. h .establish refl refl .0)
 
   -- PAP, once opened
-  abbrev sent : papRecord.Pap
-  sent = steppedPap (withPapState c papState.the-variants.ReqSent)
+  abbrev sent : authentication.Auth
+  sent = authAfter c (steppedPap (withPapState (c .pap) papState.the-variants.ReqSent))
+
+  -- and before its request
+  abbrev asking : authentication.Auth
+  asking = authAfter c (withPapState (c .pap) papState.the-variants.ReqSent)
 
   abbrev asked : State → theirs.Polled
-  asked t = record { ppp = theirs.settle (viewPpp (at Auth o i Opened (with auth.the-variants.Pap) sent j t y)); tx = sendPapRequest (viewPap (withPapState c papState.the-variants.ReqSent)) .tx }
+  asked t = record { ppp = theirs.settle (viewPpp (at Auth o i Opened (with auth.the-variants.Pap) sent j t y)); tx = sendPapRequest (viewPap asking) .tx }
 
   asked-steps : (t : State) → Steps (asked t) (ours.phaseOf (at Establish o i Opened (with auth.the-variants.Pap) c j t y))
-  unfolding ours.phaseOf ours.establishOf openedPap papRequested
+  unfolding ours.phaseOf ours.establishOf openedAuth openedPap papRequested
   asked-steps t =
-      let q = withPapState c papState.the-variants.ReqSent in
-      let h : credentials.Held q = record { id = hc .id; bytes = hc .bytes } in
-      ends (at Auth o i Opened (with auth.the-variants.Pap) sent j t y) (record { lcp-id = hi; ipv4cp-id = hj; pap = credentials.stepped-held q h })
-      (more (credentials.request-carries q h) none)
+      let h : credentials.Held asking = record { id = hc .id; bytes = hc .bytes } in
+      ends (at Auth o i Opened (with auth.the-variants.Pap) sent j t y) (record { lcp-id = hi; ipv4cp-id = hj; auth = credentials.stepped-held asking h })
+      (more (credentials.request-carries asking h) none)
 
   pap-opens : (t : State) → Here Opened auth.the-variants.Pap t
-  unfolding theirs.pollPpp openPap ours.phaseOf ours.establishOf openedPap
-  pap-opens t = go (c .state) refl
+  unfolding theirs.pollPpp openPap ours.phaseOf ours.establishOf openedAuth openedPap isAuthClosed
+  pap-opens t = go (c .pap .state) refl
     where
-      go : (u : papState.PapState) → c .state ≡ u → Here Opened auth.the-variants.Pap t
+      go : (u : papState.PapState) → c .pap .state ≡ u → Here Opened auth.the-variants.Pap t
       go papState.the-variants.Closed e = rw e (same (asked-steps t))
       go papState.the-variants.ReqSent e = rw e (asserts (λ h. let k = h .establish refl refl .1 in apart cc) papOpened refl (asked-steps t))
       go papState.the-variants.Opened e = rw e (asserts (λ h. let k = h .establish refl refl .1 in apart cc) papOpened refl (asked-steps t))
@@ -180,10 +184,10 @@ pub phase-same : (p : ppp.Ppp) → Held p → SamePhase p (theirs.pollPpp (viewP
 phase-same p h = go (p .phase)
   where
     go : (f : Phase) → SamePhase (ours.withPhase p f) (theirs.pollPpp (viewPpp (ours.withPhase p f)))
-    go Dead = in-dead (p .opening) (p .lcp .id) (p .lcp .state) (p .lcp .proto) (p .pap) (p .ipv4cp .id) (p .ipv4cp .proto) (h .lcp-id) (h .pap) (h .ipv4cp-id) (p .ipv4cp .state)
+    go Dead = in-dead (p .opening) (p .lcp .id) (p .lcp .state) (p .lcp .proto) (p .auth) (p .ipv4cp .id) (p .ipv4cp .proto) (h .lcp-id) (h .auth) (h .ipv4cp-id) (p .ipv4cp .state)
     go Establish =
-        in-establish (p .opening) (p .lcp .id) (p .lcp .proto .«asyncmap_remote») (p .lcp .proto .asyncmap) (p .lcp .proto .«asyncmap_rej») (p .pap) (p .ipv4cp .id) (p .ipv4cp .proto) (h .lcp-id) (h .pap) (h .ipv4cp-id)
+        in-establish (p .opening) (p .lcp .id) (p .lcp .proto .«asyncmap_remote») (p .lcp .proto .asyncmap) (p .lcp .proto .«asyncmap_rej») (p .auth) (p .ipv4cp .id) (p .ipv4cp .proto) (h .lcp-id) (h .auth) (h .ipv4cp-id)
         (p .lcp .state) (p .lcp .proto .auth) (p .ipv4cp .state)
-    go Auth = in-auth (p .opening) (p .lcp .id) (p .lcp .state) (p .lcp .proto) (p .pap) (p .ipv4cp .id) (p .ipv4cp .proto) (h .lcp-id) (h .pap) (h .ipv4cp-id) (p .ipv4cp .state)
-    go Network = in-network (p .opening) (p .lcp .id) (p .lcp .state) (p .lcp .proto) (p .pap) (p .ipv4cp .id) (p .ipv4cp .proto) (h .lcp-id) (h .pap) (h .ipv4cp-id) (p .ipv4cp .state)
-    go Open = in-open (p .opening) (p .lcp .id) (p .lcp .state) (p .lcp .proto) (p .pap) (p .ipv4cp .id) (p .ipv4cp .proto) (h .lcp-id) (h .pap) (h .ipv4cp-id) (p .ipv4cp .state)
+    go Auth = in-auth (p .opening) (p .lcp .id) (p .lcp .state) (p .lcp .proto) (p .auth) (p .ipv4cp .id) (p .ipv4cp .proto) (h .lcp-id) (h .auth) (h .ipv4cp-id) (p .ipv4cp .state)
+    go Network = in-network (p .opening) (p .lcp .id) (p .lcp .state) (p .lcp .proto) (p .auth) (p .ipv4cp .id) (p .ipv4cp .proto) (h .lcp-id) (h .auth) (h .ipv4cp-id) (p .ipv4cp .state)
+    go Open = in-open (p .opening) (p .lcp .id) (p .lcp .state) (p .lcp .proto) (p .auth) (p .ipv4cp .id) (p .ipv4cp .proto) (h .lcp-id) (h .auth) (h .ipv4cp-id) (p .ipv4cp .state)

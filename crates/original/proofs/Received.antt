@@ -13,10 +13,10 @@ use Rattle.laws.specs.Each.{Bytes}
 use Rattle.laws.proofs.Cases.{by-test, cond-both}
 use Rattle.negotiation.specs.Messages.{nextId}
 use Rattle.negotiation.specs.Automaton as ours
-use Rattle.negotiation.specs.Pap.{PapTurn}
+use Rattle.negotiation.specs.Auth.{AuthTurn}
 use Rattle.options.specs.Wire.{protocolIn}
 use Rattle.negotiation.specs.Automaton.{protocolRejectOf}
-use Rattle.phases.specs.Phases.{PppTurn, lcpTurn, ipv4cpTurn, papTurn, rejectOf, receivedOf}
+use Rattle.phases.specs.Phases.{PppTurn, lcpTurn, ipv4cpTurn, rejectOf, receivedOf, authTurn}
 use Rattle.options.specs.declared.refusal.Refusal.the-variants.{ReplyLong}
 use Rattle.options.specs.declared.refusal.Outcome.the-variants.{Done, Refused}
 use Rattle.options.specs.declared.proto.Proto.the-variants as proto
@@ -39,7 +39,7 @@ use Rattle.original.proofs.Pap as pap
 pub record Held (p : ppp.Ppp) : Type 0 where
   pub lcp-id : p .lcp .id < 256
   pub ipv4cp-id : p .ipv4cp .id < 256
-  pub pap : pap.Held (p .pap)
+  pub auth : pap.Held (p .auth)
 
 -- both leave the same and send the same; or the original gives a packet above 128 bytes, or panics, where ours refuses
 pub data SameReceived (pkt : List ℕ) : Run theirs.Received → PppTurn → Type 0 where
@@ -52,21 +52,21 @@ module _ (p : ppp.Ppp) (held : Held p) (pkt : List ℕ) where
   lcp-turn : (h : Run (Handled Lcp)) (t : ours.Reaction) → Same lcpProtocol proto.Lcp viewLcp lcp-stands pkt h t
       → SameReceived pkt (h >>= λ h. returns (record { ppp = theirs.withLcp (viewPpp p) (h .fsm); pkt = h .pkt; tx = h .tx })) (lcpTurn p t)
   lcp-turn h t (automaton.same i s x small a b c d e f) =
-      rw b (same (ap (theirs.withLcp (viewPpp p)) a) (record { lcp-id = small; ipv4cp-id = held .ipv4cp-id; pap = held .pap }) c d e f)
+      rw b (same (ap (theirs.withLcp (viewPpp p)) a) (record { lcp-id = small; ipv4cp-id = held .ipv4cp-id; auth = held .auth }) c d e f)
   lcp-turn h t (automaton.long q a b c) = long q a b c
   lcp-turn h t (automaton.stops f) = stops f
 
   ipv4cp-turn : (h : Run (Handled Ipv4cp)) (t : ours.Reaction) → Same ipv4cpProtocol proto.Ipv4cp viewIpv4cp ipv4cp-stands pkt h t
       → SameReceived pkt (h >>= λ h. returns (record { ppp = theirs.withIpv4cp (viewPpp p) (h .fsm); pkt = h .pkt; tx = h .tx })) (ipv4cpTurn p t)
   ipv4cp-turn h t (automaton.same i s x small a b c d e f) =
-      rw b (same (ap (theirs.withIpv4cp (viewPpp p)) a) (record { lcp-id = held .lcp-id; ipv4cp-id = small; pap = held .pap }) c d e f)
+      rw b (same (ap (theirs.withIpv4cp (viewPpp p)) a) (record { lcp-id = held .lcp-id; ipv4cp-id = small; auth = held .auth }) c d e f)
   ipv4cp-turn h t (automaton.long q a b c) = long q a b c
   ipv4cp-turn h t (automaton.stops f) = stops f
 
-  pap-turn : (h : Run PapHandled) (t : PapTurn) → pap.SamePap h t
-      → SameReceived pkt (h >>= λ h. returns (record { ppp = theirs.withPap (viewPpp p) (h .pap); pkt = pkt; tx = h .tx })) (papTurn p t)
+  pap-turn : (h : Run PapHandled) (t : AuthTurn) → pap.SamePap h t
+      → SameReceived pkt (h >>= λ h. returns (record { ppp = theirs.withPap (viewPpp p) (h .pap); pkt = pkt; tx = h .tx })) (authTurn p t)
   pap-turn h t (pap.same a b c d) =
-      same (ap (theirs.withPap (viewPpp p)) a) (record { lcp-id = held .lcp-id; ipv4cp-id = held .ipv4cp-id; pap = b }) c refl (λ e. absurd (false≢true e)) d
+      same (ap (theirs.withPap (viewPpp p)) a) (record { lcp-id = held .lcp-id; ipv4cp-id = held .ipv4cp-id; auth = b }) c refl (λ e. absurd (false≢true e)) d
   pap-turn h t (pap.stops f) = stops f
 
   reject-same : Bytes pkt → SameReceived pkt (theirs.receivedBy Unknown (viewPpp p) pkt) (rejectOf p pkt)
@@ -76,7 +76,7 @@ module _ (p : ppp.Ppp) (held : Held p) (pkt : List ℕ) where
       let q : Packet = packetOf lcpProtocol (PPP 8 i (RawData pkt)) in
       by-test (ltb 122 (length pkt))
       (λ t. rw t (long q refl (omega (arith, ltb-true 122 (length pkt) t)) refl))
-      (λ t. rw t (same refl (record { lcp-id = next; ipv4cp-id = held .ipv4cp-id; pap = held .pap }) refl refl (λ e. absurd (false≢true e))
+      (λ t. rw t (same refl (record { lcp-id = next; ipv4cp-id = held .ipv4cp-id; auth = held .auth }) refl refl (λ e. absurd (false≢true e))
       (more (carries-ppp LCP 0xC021 8 i (RawData pkt) pkt refl (lit< tt) next refl refl bytes (omega (arith, ltb-false 122 (length pkt) t))) none)))
     where
       next : nextId (p .lcp .id) < 256
@@ -91,7 +91,7 @@ module _ (p : ppp.Ppp) (held : Held p) (pkt : List ℕ) where
       (λ _. by-test (eqb n 0xC021)
       (λ t. rw t (lcp-turn _ _ (handle-same lcpProtocol proto.Lcp viewLcp lcp-stands (p .lcp .id) (p .lcp .state) (p .lcp .proto) pkt (held .lcp-id) bytes)))
       (λ t. rw t (by-test (eqb n 0xC023)
-      (λ u. rw u (pap-turn _ _ (pap.pap-same (p .pap) (held .pap) pkt)))
+      (λ u. rw u (pap-turn _ _ (pap.pap-same (p .auth) (held .auth) pkt)))
       (λ u. rw (u, other) (by-test (eqb n 0x8021)
       (λ v. rw v (ipv4cp-turn _ _ (handle-same ipv4cpProtocol proto.Ipv4cp viewIpv4cp ipv4cp-stands (p .ipv4cp .id) (p .ipv4cp .state) (p .ipv4cp .proto) pkt (held .ipv4cp-id) bytes)))
       (λ v. rw v (reject-same bytes)))))))

@@ -4,18 +4,18 @@ use mathlib.Core.Path.{_≡_, refl, ap, ap₂, sym, _∙_}
 use mathlib.Core.List.{List, _++_}
 use Prim.Native.Nat.{ℕ, _+_, _-_}
 use native.Mathlib.Omega.{arith}
-use borrow.Author.Tests.{le-leb}
 use lib.ListN.{length, take, drop, length-take, length-drop}
 use lib.Seq.{take-add}
 use Rattle.framing.specs.declared.frame_reader.State as reading
 use Rattle.framing.specs.declared.frame_reader.FrameReader as reader
 use Rattle.framing.specs.declared.frame_reader.Reading.the-variants.{Crate}
-use Rattle.negotiation.specs.Pap.{nameLen, passwordLen, nameOf, passwordOf}
+use Rattle.negotiation.specs.Credentials.{nameLen, passwordLen, nameOf, passwordOf}
+use Rattle.negotiation.proofs.CredentialLaws.{sum-fits}
 use Rattle.negotiation.specs.declared.states.State as fsm
 use Rattle.options.specs.declared.lcp.AuthType as auth
 use Rattle.options.specs.declared.ipv4cp.IpOption as ip
 use Rattle.negotiation.specs.declared.pap.PapState as papState
-use Rattle.negotiation.specs.declared.pap.Pap.{Pap}
+use Rattle.negotiation.specs.declared.credentials.Credentials.{Credentials}
 use Rattle.phases.specs.declared.ppp.Phase as phase
 use Rattle.phases.specs.declared.ppp.LcpFsm as lcpFsm
 use Rattle.phases.specs.declared.ppp.Ipv4cpFsm as ipv4cpFsm
@@ -26,7 +26,7 @@ use Rattle.original.specs.Protocols as protocols
 use Rattle.original.specs.Ppp as ppp
 use Rattle.original.specs.Pppos as theirs
 use Rattle.original.specs.View.{viewReading, viewReader, viewState, viewAuth, viewPapState, viewPhase, viewLcpFsm, viewIpv4cpFsm, viewLink}
-use Rattle.original.specs.Domain.{Whole}
+use Rattle.original.specs.Domain.{CredentialsFit}
 use Rattle.original.specs.Alike.{Alike}
 
 -- ---- the way back, for each part
@@ -124,43 +124,39 @@ ipv4cp-back x = rw (state-back (x .state)) refl
 
 -- ---- credentials
 
-module _ (p : Pap) (whole : Whole p) where
-  lengths : (nameLen p ≡ p .«username_len») × (passwordLen p ≡ p .«password_len»)
+module _ (c : Credentials) (fit : CredentialsFit c) where
+  lengths : (nameLen c ≡ c .«username_len») × (passwordLen c ≡ c .«password_len»)
   lengths =
-      let n = p .«username_len» in
-      let m = p .«password_len» in
-      let h = whole .fits in
-      let e = le-leb n 120 (omega arith) in
-      let f = le-leb m (120 - n) (omega arith) in
-      (rw (e, f) refl, rw (e, f) refl)
+      let e = sum-fits (c .«username_len») (c .«password_len») (fit .fits) in
+      (rw e refl, rw e refl)
 
-  name-length : length (nameOf p) ≡ p .«username_len»
-  name-length = omega (arith, length-take (nameLen p) (p .bytes), lengths .0, whole .array, whole .fits)
+  name-length : length (nameOf c) ≡ c .«username_len»
+  name-length = omega (arith, length-take (nameLen c) (c .bytes), lengths .0, fit .array, fit .fits)
 
-  password-length : length (passwordOf p) ≡ p .«password_len»
-  password-length = omega (arith, length-take (passwordLen p) (drop (nameLen p) (p .bytes)), length-drop (nameLen p) (p .bytes), lengths .0, lengths .1, whole .array, whole .fits)
+  password-length : length (passwordOf c) ≡ c .«password_len»
+  password-length = omega (arith, length-take (passwordLen c) (drop (nameLen c) (c .bytes)), length-drop (nameLen c) (c .bytes), lengths .0, lengths .1, fit .array, fit .fits)
 
-  joined : take (p .«username_len» + p .«password_len») (p .bytes) ≡ nameOf p ++ passwordOf p
-  joined = take-add (p .«username_len») (p .«password_len») (p .bytes) ∙ rw (lengths .0, lengths .1) refl
+  joined : take (c .«username_len» + c .«password_len») (c .bytes) ≡ nameOf c ++ passwordOf c
+  joined = take-add (c .«username_len») (c .«password_len») (c .bytes) ∙ rw (lengths .0, lengths .1) refl
 
 -- ---- two links with one view
 
-pub equal-views : (a b : PPPoS) → a .«frame_reader» .reading ≡ Crate → b .«frame_reader» .reading ≡ Crate → Whole (a .ppp .pap) → Whole (b .ppp .pap)
+pub equal-views : (a b : PPPoS) → a .«frame_reader» .reading ≡ Crate → b .«frame_reader» .reading ≡ Crate → CredentialsFit (a .ppp .auth .credentials) → CredentialsFit (b .ppp .auth .credentials)
     → viewLink a ≡ viewLink b → Alike a b
 equal-views a b ra rb wa wb e =
-    let name : nameOf (a .ppp .pap) ≡ nameOf (b .ppp .pap) = ap (λ (x : theirs.PPPoS). x .ppp .pap .username) e in
-    let word : passwordOf (a .ppp .pap) ≡ passwordOf (b .ppp .pap) = ap (λ (x : theirs.PPPoS). x .ppp .pap .password) e in
-    let n : a .ppp .pap .«username_len» ≡ b .ppp .pap .«username_len» = sym (name-length (a .ppp .pap) wa) ∙ ap length name ∙ name-length (b .ppp .pap) wb in
-    let m : a .ppp .pap .«password_len» ≡ b .ppp .pap .«password_len» = sym (password-length (a .ppp .pap) wa) ∙ ap length word ∙ password-length (b .ppp .pap) wb in
+    let name : nameOf (a .ppp .auth .credentials) ≡ nameOf (b .ppp .auth .credentials) = ap (λ (x : theirs.PPPoS). x .ppp .pap .username) e in
+    let word : passwordOf (a .ppp .auth .credentials) ≡ passwordOf (b .ppp .auth .credentials) = ap (λ (x : theirs.PPPoS). x .ppp .pap .password) e in
+    let n : a .ppp .auth .credentials .«username_len» ≡ b .ppp .auth .credentials .«username_len» = sym (name-length (a .ppp .auth .credentials) wa) ∙ ap length name ∙ name-length (b .ppp .auth .credentials) wb in
+    let m : a .ppp .auth .credentials .«password_len» ≡ b .ppp .auth .credentials .«password_len» = sym (password-length (a .ppp .auth .credentials) wa) ∙ ap length word ∙ password-length (b .ppp .auth .credentials) wb in
     record {
       reader = sym (reader-back (a .«frame_reader») ra) ∙ ap (λ (x : theirs.PPPoS). readerBack (x .frameReader)) e ∙ reader-back (b .«frame_reader») rb;
       phase = sym (phase-back (a .ppp .phase)) ∙ ap (λ (x : theirs.PPPoS). phaseBack (x .ppp .phase)) e ∙ phase-back (b .ppp .phase);
       opening = ap (λ (x : theirs.PPPoS). x .ppp .opening) e;
       lcp = sym (lcp-back (a .ppp .lcp)) ∙ ap (λ (x : theirs.PPPoS). lcpBack (x .ppp .lcp)) e ∙ lcp-back (b .ppp .lcp);
       ipv4cp = sym (ipv4cp-back (a .ppp .ipv4cp)) ∙ ap (λ (x : theirs.PPPoS). ipv4cpBack (x .ppp .ipv4cp)) e ∙ ipv4cp-back (b .ppp .ipv4cp);
-      pap-state = sym (pap-back (a .ppp .pap .state)) ∙ ap (λ (x : theirs.PPPoS). papBack (x .ppp .pap .state)) e ∙ pap-back (b .ppp .pap .state);
+      pap-state = sym (pap-back (a .ppp .auth .pap .state)) ∙ ap (λ (x : theirs.PPPoS). papBack (x .ppp .pap .state)) e ∙ pap-back (b .ppp .auth .pap .state);
       pap-id = ap (λ (x : theirs.PPPoS). x .ppp .pap .id) e;
       name-length = n;
       password-length = m;
-      credentials = joined (a .ppp .pap) wa ∙ ap₂ (λ (x y : List ℕ). x ++ y) name word ∙ sym (joined (b .ppp .pap) wb) ∙ rw (n, m) refl;
+      credentials = joined (a .ppp .auth .credentials) wa ∙ ap₂ (λ (x y : List ℕ). x ++ y) name word ∙ sym (joined (b .ppp .auth .credentials) wb) ∙ rw (n, m) refl;
     }

@@ -6,9 +6,9 @@ use lib.ListN.{length}
 use Rattle.laws.specs.Each.{Bytes}
 use Rattle.framing.specs.Reader.{Framed}
 use Rattle.framing.specs.declared.frame_reader.Reading.the-variants.{Crate}
-use Rattle.negotiation.specs.declared.pap.Pap.{Pap}
 use Rattle.link.specs.Choices.{choicesOf, Plain}
 use Rattle.link.specs.Link.{Makes, Opens, Consumes, pollLink, Polls}
+use Rattle.negotiation.specs.declared.credentials.Credentials.{Credentials}
 use Rattle.link.specs.declared.refusal.Outcome.{Outcome}
 use Rattle.link.specs.declared.choices.Choices.{Choices}
 use Rattle.link.specs.declared.pppos.PPPoS.{PPPoS}
@@ -20,8 +20,8 @@ pub record Lasting (l : PPPoS) : Type 0 where
   pub crate-reading : choicesOf l .reading ≡ Crate
   pub lcp-id : l .ppp .lcp .id < 256
   pub ipv4cp-id : l .ppp .ipv4cp .id < 256
-  pub pap-id : l .ppp .pap .id < 256
-  pub credentials : Bytes (l .ppp .pap .bytes)
+  pub pap-id : l .ppp .auth .pap .id < 256
+  pub credentials : Bytes (l .ppp .auth .credentials .bytes)
 
 -- a receive buffer that has what the link keeps: a slice of bytes
 pub record Lent (l : PPPoS) (rx : List ℕ) : Type 0 where
@@ -36,9 +36,9 @@ pub record InDomain (l : PPPoS) (rx : List ℕ) : Type 0 where
 -- ---- what every call keeps
 
 -- credentials as new leaves them: an array of 120 bytes, and lengths that it has
-pub record Whole (p : Pap) : Type 0 where
-  pub array : length (p .bytes) ≡ 120
-  pub fits : p .«username_len» + p .«password_len» ≤ 120
+pub record CredentialsFit (c : Credentials) : Type 0 where
+  pub array : length (c .bytes) ≡ 120
+  pub fits : c .«username_len» + c .«password_len» ≤ 120
 
 -- P holds of new's link, made with plain choices and in crate reading, and survives every call, refusals included, whatever bytes are lent; send and status leave the link
 pub record Lasts (P : PPPoS → Type 0) : Type 0 where
@@ -50,5 +50,5 @@ pub record Lasts (P : PPPoS → Type 0) : Type 0 where
 -- it is so of each of the three
 pub record AllLast : Type 0 where
   pub lasting : Lasts Lasting
-  pub whole : Lasts (λ l. Whole (l .ppp .pap))
+  pub credentials-fit : Lasts (λ l. CredentialsFit (l .ppp .auth .credentials))
   pub framed : Lasts (λ l. Framed (l .«frame_reader»))

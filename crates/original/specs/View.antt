@@ -4,7 +4,7 @@ use Prim.Native.Nat.{ℕ}
 use Rattle.framing.specs.declared.frame_writer.FrameWriter as writer
 use Rattle.framing.specs.declared.frame_reader.State as reading
 use Rattle.framing.specs.declared.frame_reader.FrameReader as reader
-use Rattle.negotiation.specs.Pap.{nameOf, passwordOf}
+use Rattle.negotiation.specs.Credentials.{nameOf, passwordOf}
 use Rattle.negotiation.specs.declared.states.State as fsm
 use Rattle.options.specs.declared.lcp.AuthType as auth
 use Rattle.options.specs.declared.lcp.Lcp as lcp
@@ -12,7 +12,7 @@ use Rattle.options.specs.declared.ipv4cp.IpOption as ip
 use Rattle.options.specs.declared.ipv4cp.Ipv4cp as ipv4cp
 use Rattle.options.specs.declared.ipv4cp.Shown as shown
 use Rattle.negotiation.specs.declared.pap.PapState as papState
-use Rattle.negotiation.specs.declared.pap.Pap as pap
+use Rattle.negotiation.specs.declared.auth.Auth as authentication
 use Rattle.phases.specs.declared.ppp.Phase as phase
 use Rattle.phases.specs.declared.ppp.LcpFsm as lcpFsm
 use Rattle.phases.specs.declared.ppp.Ipv4cpFsm as ipv4cpFsm
@@ -70,8 +70,8 @@ viewPapState papState.the-variants.ReqSent = PapReqSent
 viewPapState papState.the-variants.Opened = PapOpened
 
 -- the credentials that the two lengths name
-abbrev pub viewPap : pap.Pap → Pap
-viewPap p = record { state = viewPapState (p .state); id = p .id; username = nameOf p; password = passwordOf p }
+abbrev pub viewPap : authentication.Auth → Pap
+viewPap a = record { state = viewPapState (a .pap .state); id = a .pap .id; username = nameOf (a .credentials); password = passwordOf (a .credentials) }
 
 abbrev pub viewPhase : phase.Phase → Phase
 viewPhase phase.the-variants.Dead = Dead
@@ -87,7 +87,7 @@ abbrev pub viewIpv4cpFsm : ipv4cpFsm.Ipv4cpFsm → OptionFsm Ipv4cp
 viewIpv4cpFsm f = record { id = f .id; state = viewState (f .state); proto = viewIpv4cp (f .proto) }
 
 abbrev pub viewPpp : ppp.Ppp → Ppp
-viewPpp p = record { phase = viewPhase (p .phase); opening = p .opening; lcp = viewLcpFsm (p .lcp); pap = viewPap (p .pap); ipv4cp = viewIpv4cpFsm (p .ipv4cp) }
+viewPpp p = record { phase = viewPhase (p .phase); opening = p .opening; lcp = viewLcpFsm (p .lcp); pap = viewPap (p .auth); ipv4cp = viewIpv4cpFsm (p .ipv4cp) }
 
 -- ---- the link
 

@@ -7,62 +7,64 @@ use mathlib.Core.List.{List, [], _∷_}
 use borrow.Author.Tests.{le-ltb, ne-eqb}
 use native.Mathlib.Omega.{arith}
 use lib.ListN.{length}
+use Rattle.negotiation.specs.declared.credentials.Credentials.{Credentials}
 use Rattle.negotiation.specs.declared.pap.Pap.{Pap}
 use Rattle.negotiation.specs.declared.pap.PapState.the-variants.{ReqSent, Opened}
 use Rattle.papers.specs.Rfc1661.{Carried}
 use Rattle.papers.specs.Rfc1334.{pap, authenticateAck, authenticateNak, Answer}
 use Rattle.options.specs.Wire.{lengthField}
 use Rattle.negotiation.specs.Messages.{nextId}
-use Rattle.negotiation.specs.Pap.{isPapSent, nameOf, passwordOf, papBytes, withPapState, steppedPap, PapTurn, papTurned, papRequested, papActOf, papHandleOf, openedPap}
+use Rattle.negotiation.specs.Pap.{isPapSent, papBytes, withPapState, steppedPap, PapTurn, papTurned, papRequested, papActOf, papHandleOf, openedPap}
+use Rattle.negotiation.specs.Credentials.{nameOf, passwordOf}
 use Rattle.papers.proofs.Packets.{read-as}
 use Rattle.papers.proofs.Layouts1334.{Authenticates, authenticates}
 
 -- ---- what is sent
 
--- PAP asks: one packet, an Authenticate-Request with the credentials of its record, and the id steps
-pub record Asks (p : Pap) (t : PapTurn) : Type 0 where
+-- PAP asks: one packet, an Authenticate-Request with the credentials that it is handed, and the id steps
+pub record Asks (c : Credentials) (p : Pap) (t : PapTurn) : Type 0 where
   pub bytes : List ℕ
-  pub request : Authenticates bytes (nextId (p .id)) (nameOf p) (passwordOf p)
+  pub request : Authenticates bytes (nextId (p .id)) (nameOf c) (passwordOf c)
   pub turn : t ≡ papTurned (steppedPap p) (bytes ∷ [])
 
-asks : (p : Pap) → Asks p (papRequested p)
+asks : (c : Credentials) (p : Pap) → Asks c p (papRequested c p)
 unfolding papRequested
-asks p = record { bytes = papBytes p; request = authenticates p; turn = refl }
+asks c p = record { bytes = papBytes c p; request = authenticates c p; turn = refl }
 
 -- as it opens
-pub opened-asks : (p : Pap) → Asks (withPapState p ReqSent) (openedPap p)
+pub opened-asks : (c : Credentials) (p : Pap) → Asks c (withPapState p ReqSent) (openedPap c p)
 unfolding openedPap
-opened-asks p = asks (withPapState p ReqSent)
+opened-asks c p = asks c (withPapState p ReqSent)
 
 -- ---- what is received
 
-by-code : (p : Pap) {bytes info : List ℕ} {n c i : ℕ} → Carried bytes n c i info → papHandleOf p bytes ≡ papActOf p c
+by-code : (c : Credentials) (p : Pap) {bytes info : List ℕ} {n code i : ℕ} → Carried bytes n code i info → papHandleOf c p bytes ≡ papActOf c p code
 unfolding papHandleOf
-by-code p {bytes} k =
+by-code c p {bytes} k =
     let r = read-as k in
     let a : 6 ≤ length bytes = omega (arith, r .count, r .within) in
     let b : lengthField bytes ≤ length bytes = omega (arith, r .within) in
     rw (le-ltb _ _ a, le-ltb _ _ b, le-ltb _ _ (r .within), r .code) refl
 
 -- the data is not read, so any will do
-module _ (p : Pap) (s : isPapSent (p .state) ≡ true) {bytes info : List ℕ} {n i : ℕ} where
-  pub takes-ack : Carried bytes n authenticateAck i info → papHandleOf p bytes ≡ papTurned (withPapState p Opened) []
+module _ (c : Credentials) (p : Pap) (s : isPapSent (p .state) ≡ true) {bytes info : List ℕ} {n i : ℕ} where
+  pub takes-ack : Carried bytes n authenticateAck i info → papHandleOf c p bytes ≡ papTurned (withPapState p Opened) []
   unfolding papActOf
-  takes-ack k = by-code p k ∙ rw s refl
+  takes-ack k = by-code c p k ∙ rw s refl
 
-  pub takes-nak : Carried bytes n authenticateNak i info → Asks p (papHandleOf p bytes)
+  pub takes-nak : Carried bytes n authenticateNak i info → Asks c p (papHandleOf c p bytes)
   unfolding papActOf
-  takes-nak k = rw (by-code p k, s) (asks p)
+  takes-nak k = rw (by-code c p k, s) (asks c p)
 
   -- any other code is ignored
-  pub ignores : {c : ℕ} → Carried bytes n c i info → (c ≡ authenticateAck → ⊥) → (c ≡ authenticateNak → ⊥) → papHandleOf p bytes ≡ papTurned p []
+  pub ignores : {code : ℕ} → Carried bytes n code i info → (code ≡ authenticateAck → ⊥) → (code ≡ authenticateNak → ⊥) → papHandleOf c p bytes ≡ papTurned p []
   unfolding papActOf
-  ignores {c} k a b = by-code p k ∙ rw (s, ne-eqb c authenticateAck a, ne-eqb c authenticateNak b) refl
+  ignores {code} k a b = by-code c p k ∙ rw (s, ne-eqb code authenticateAck a, ne-eqb code authenticateNak b) refl
 
 -- and so is any packet while no answer is awaited
-pub idle-ignores : (p : Pap) → isPapSent (p .state) ≡ false → {bytes info : List ℕ} {n c i : ℕ} → Carried bytes n c i info → papHandleOf p bytes ≡ papTurned p []
+pub idle-ignores : (c : Credentials) (p : Pap) → isPapSent (p .state) ≡ false → {bytes info : List ℕ} {n code i : ℕ} → Carried bytes n code i info → papHandleOf c p bytes ≡ papTurned p []
 unfolding papActOf
-idle-ignores p s k = by-code p k ∙ rw s refl
+idle-ignores c p s k = by-code c p k ∙ rw s refl
 
 -- ---- so it is with an answer of the paper
 
@@ -71,9 +73,9 @@ pub record Answered (bytes : List ℕ) (code id : ℕ) (message : List ℕ) : Ty
   pub carried : Carried bytes pap code id info
   pub answer : Answer info message
 
-module _ (p : Pap) (s : isPapSent (p .state) ≡ true) {bytes message : List ℕ} {i : ℕ} where
-  pub ack-opens : Answered bytes authenticateAck i message → papHandleOf p bytes ≡ papTurned (withPapState p Opened) []
-  ack-opens a = takes-ack p s (a .carried)
+module _ (c : Credentials) (p : Pap) (s : isPapSent (p .state) ≡ true) {bytes message : List ℕ} {i : ℕ} where
+  pub ack-opens : Answered bytes authenticateAck i message → papHandleOf c p bytes ≡ papTurned (withPapState p Opened) []
+  ack-opens a = takes-ack c p s (a .carried)
 
-  pub nak-asks : Answered bytes authenticateNak i message → Asks p (papHandleOf p bytes)
-  nak-asks a = takes-nak p s (a .carried)
+  pub nak-asks : Answered bytes authenticateNak i message → Asks c p (papHandleOf c p bytes)
+  nak-asks a = takes-nak c p s (a .carried)

@@ -6,11 +6,13 @@ use Prim.Native.Nat.{ℕ, _+_}
 use native.Mathlib.Omega.{arith}
 use lib.ListN.{length, take, drop, getD, length-append}
 use lib.Seq.{take-length, take-append-seam, drop-append-seam}
+use Rattle.negotiation.specs.declared.credentials.Credentials.{Credentials}
 use Rattle.negotiation.specs.declared.pap.Pap.{Pap}
 use Rattle.papers.specs.Rfc1334.{pap, authenticateRequest, Request}
 use Rattle.negotiation.specs.Messages.{nextId}
-use Rattle.negotiation.specs.Pap.{nameOf, passwordOf, credentialBytes, papBytes}
-use Rattle.negotiation.proofs.Paps.{credentials-short}
+use Rattle.negotiation.specs.Pap.{credentialBytes, papBytes}
+use Rattle.negotiation.specs.Credentials.{nameOf, passwordOf}
+use Rattle.negotiation.proofs.CredentialLaws.{credentials-short}
 use Rattle.papers.proofs.Packets.{Sent, laid-packet}
 
 -- an Authenticate-Request with these credentials
@@ -19,13 +21,13 @@ pub record Authenticates (bytes : List ℕ) (id : ℕ) (name password : List ℕ
   pub packet : Sent bytes pap authenticateRequest id info
   pub request : Request info name password
 
--- the request that PAP sends carries the name and the password of its record
-pub authenticates : (p : Pap) → Authenticates (papBytes p) (nextId (p .id)) (nameOf p) (passwordOf p)
-authenticates p =
-    let a = nameOf p in
-    let b = passwordOf p in
+-- the request that PAP sends carries the name and the password that it was handed
+pub authenticates : (c : Credentials) (p : Pap) → Authenticates (papBytes c p) (nextId (p .id)) (nameOf c) (passwordOf c)
+authenticates c p =
+    let a = nameOf c in
+    let b = passwordOf c in
     let d = credentialBytes a b in
-    let h = credentials-short p in
+    let h = credentials-short c in
     let g : length d ≡ length a + length b + 2 = rw length-append (omega arith) in
     record {
       info = d;

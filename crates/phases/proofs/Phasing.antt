@@ -18,9 +18,10 @@ use Rattle.options.specs.Refusal.{isDone}
 use Rattle.options.specs.Wire.{protocolIn}
 use Rattle.negotiation.specs.Replies.{maxReplies, joined}
 use Rattle.negotiation.specs.Automaton.{isClosed, isOpened}
-use Rattle.negotiation.specs.Pap.{isPapOpened}
+use Rattle.negotiation.specs.Auth.{isAuthOpened}
+use Rattle.negotiation.proofs.Auths.{auth-sends, auth-opened-sends}
 use Rattle.negotiation.proofs.Joining.{join-replies}
-use Rattle.negotiation.proofs.Sends.{Sends, sends-none, sends-both, handle-sends, reject-sends, opened-sends, pap-sends, pap-opened-sends}
+use Rattle.negotiation.proofs.Sends.{Sends, sends-none, sends-both, handle-sends, reject-sends, opened-sends}
 use Rattle.phases.specs.declared.ppp.Phase.{Phase}
 use Rattle.phases.specs.declared.ppp.Phase.the-variants.{Dead, Establish, Auth, Network, Open}
 use Rattle.phases.specs.declared.ppp.Ppp.{Ppp}
@@ -56,14 +57,14 @@ received-sends p pkt =
     let n = protocolIn pkt in
     cond-all P (ltb (length pkt) 2) (sends-none 2)
     (cond-all P (eqb n 0xC021) (handle-sends (lcpIn (p .lcp)) pkt)
-    (cond-all P (eqb n 0xC023) (pap-sends (p .pap) pkt)
+    (cond-all P (eqb n 0xC023) (auth-sends (p .auth) pkt)
     (cond-all P (eqb n 0x0021) (sends-none 2)
     (cond-all P (eqb n 0x8021) (handle-sends (ipv4cpIn (p .ipv4cp)) pkt)
     (reject-sends (lcpIn (p .lcp)) pkt)))))
 
-auth-sends : (a : AuthType) (p : Ppp) → Sends 1 (byAuth a p .sent)
-auth-sends None p = opened-sends (ipv4cpIn (p .ipv4cp))
-auth-sends auth.Pap p = pap-opened-sends (p .pap)
+by-auth-sends : (a : AuthType) (p : Ppp) → Sends 1 (byAuth a p .sent)
+by-auth-sends None p = opened-sends (ipv4cpIn (p .ipv4cp))
+by-auth-sends auth.Pap p = auth-opened-sends (p .auth)
 
 by-phase-sends : (f : Phase) (p : Ppp) → Sends 1 (byPhase f p .sent)
 unfolding establishOf authOf networkOf
@@ -71,9 +72,9 @@ by-phase-sends Dead p = sends-none 1
 by-phase-sends Establish p =
     let P : Step → Type 0 = λ s. Sends 1 (s .sent) in
     cond-all P (isClosed (p .lcp .state)) (opened-sends (lcpIn (p .lcp)))
-    (cond-all P (isOpened (p .lcp .state)) (auth-sends (p .lcp .proto .auth) p) (sends-none 1))
+    (cond-all P (isOpened (p .lcp .state)) (by-auth-sends (p .lcp .proto .auth) p) (sends-none 1))
 by-phase-sends Auth p =
-    cond-all (λ (s : Step). Sends 1 (s .sent)) (isPapOpened (p .pap .state)) (opened-sends (ipv4cpIn (p .ipv4cp))) (sends-none 1)
+    cond-all (λ (s : Step). Sends 1 (s .sent)) (isAuthOpened (p .auth)) (opened-sends (ipv4cpIn (p .ipv4cp))) (sends-none 1)
 by-phase-sends Network p = sends-none 1
 by-phase-sends Open p = sends-none 1
 

@@ -7,13 +7,11 @@ use mathlib.Core.Logic.{_⊎_, inl, inr}
 use Prim.Native.Nat.{ℕ, _+_}
 use lib.Dec.{ltb, eqb}
 use lib.ListN.{length, take, getD}
-use Rattle.laws.proofs.Cases.{apart, by-test, both, cond-by, cond-all}
+use Rattle.laws.proofs.Cases.{apart, by-test, cond-by, cond-all}
 use Rattle.options.specs.declared.lcp.AuthType.{AuthType}
 use Rattle.options.specs.declared.lcp.AuthType.the-variants as authType
 use Rattle.negotiation.specs.declared.option_fsm.OptionFsm.{OptionFsm}
-use Rattle.negotiation.specs.declared.pap.Pap.{Pap}
-use Rattle.negotiation.specs.declared.pap.PapState.{PapState}
-use Rattle.negotiation.specs.declared.pap.PapState.the-variants as papState
+use Rattle.negotiation.specs.declared.auth.Auth as authentication
 use Rattle.phases.specs.declared.ppp.LcpFsm.{LcpFsm}
 use Rattle.phases.specs.declared.ppp.Phase.{Phase}
 use Rattle.phases.specs.declared.ppp.Phase.the-variants.{Dead, Establish, Auth, Network, Open}
@@ -27,8 +25,11 @@ use Rattle.negotiation.specs.declared.states.State.the-variants.{Closed, ReqSen
 use Rattle.options.specs.Refusal.{isDone}
 use Rattle.options.specs.Wire.{protocolIn, lengthField}
 use Rattle.negotiation.specs.Automaton.{afterAcked, afterNotAcked, afterReq, afterAck, afterNack, afterTerm, isClosed, isOpened, Reaction, requested, termAckOf, ackOf, reqOf, nackOf, ignoreOf, echoOf, actOf, handleOf, protocolRejectOf, openedFsm}
-use Rattle.negotiation.specs.Pap.{fitsCredentials, isPapSent, isPapOpened, PapTurn, papRequested, papActOf, papHandleOf, openedPap}
-use Rattle.phases.specs.Phases.{freshWith, withPhase, withOpening, withLcp, lcpIn, ipv4cpIn, PppTurn, rejectOf, receivedOf, Step, stepTo, opensLcp, opensIpv4cp, opensPap, closesIpv4cp, closesPap, byAuth, establishOf, authOf, networkOf, diesOf, settled, phaseOf, isPapClosed, restsOf, pollOf, turnOf, isDead, pppTurned, openOf, newOf}
+use Rattle.phases.specs.Phases.{freshWith, withPhase, withOpening, withLcp, lcpIn, ipv4cpIn, PppTurn, rejectOf, receivedOf, Step, stepTo, opensLcp, opensIpv4cp, closesIpv4cp, byAuth, establishOf, authOf, networkOf, diesOf, settled, phaseOf, restsOf, pollOf, turnOf, isDead, pppTurned, openOf, newOf, opensAuth, closesAuth}
+use Rattle.negotiation.specs.Credentials.{fitsCredentials}
+use Rattle.negotiation.specs.Auth.{isAuthClosed, isAuthSent, isAuthOpened}
+use Rattle.negotiation.proofs.Auths as auth
+use Rattle.negotiation.proofs.Auths.{AuthNear}
 use Rattle.phases.specs.Sound.{isEstablish, Sound, Calm}
 use Rattle.negotiation.proofs.Proper.{proper-handle}
 use Rattle.negotiation.proofs.StateTable.{answer, is-closed, req-goes, ack-goes, nack-goes}
@@ -43,16 +44,6 @@ done-is (Refused why) e = absurd (false≢true e)
 closed-shut : (s : State) → isClosed s ≡ true → isOpened s ≡ false
 closed-shut s e = rw (is-closed s e) refl
 
-is-sent : (s : PapState) → isPapSent s ≡ true → s ≡ papState.ReqSent
-is-sent papState.Closed e = absurd (false≢true e)
-is-sent papState.ReqSent e = refl
-is-sent papState.Opened e = absurd (false≢true e)
-
-opened-unsent : (s : PapState) → isPapOpened s ≡ true → isPapSent s ≡ false
-opened-unsent papState.Closed e = refl
-opened-unsent papState.ReqSent e = absurd (false≢true e)
-opened-unsent papState.Opened e = refl
-
 -- ---- one phase's clause gives all
 
 -- and LCP is no longer to be opened
@@ -63,10 +54,10 @@ record Rests (p : Ppp) : Type 0 where
 -- what a phase asks of the other states
 abbrev Own : Phase → Ppp → Type 0
 Own Dead p = Unit {0}
-Own Establish p = (isOpened (p .lcp .state) ≡ false) × (p .ipv4cp .state ≡ Closed) × (p .pap .state ≡ papState.Closed)
-Own Auth p = (p .pap .state ≡ papState.ReqSent) × (p .ipv4cp .state ≡ Closed)
-Own Network p = (isClosed (p .ipv4cp .state) ≡ false) × (isOpened (p .ipv4cp .state) ≡ false) × (isPapSent (p .pap .state) ≡ false)
-Own Open p = isPapSent (p .pap .state) ≡ false
+Own Establish p = (isOpened (p .lcp .state) ≡ false) × (p .ipv4cp .state ≡ Closed) × (isAuthClosed (p .auth) ≡ true)
+Own Auth p = (isAuthSent (p .auth) ≡ true) × (p .ipv4cp .state ≡ Closed)
+Own Network p = (isClosed (p .ipv4cp .state) ≡ false) × (isOpened (p .ipv4cp .state) ≡ false) × (isAuthSent (p .auth) ≡ false)
+Own Open p = isAuthSent (p .auth) ≡ false
 
 establish-alive : (f : Phase) → (isEstablish f && isDead f) ≡ false
 establish-alive Dead = refl
@@ -90,13 +81,13 @@ rests-by p o c own =
       opened = o;
     }
   where
-    past : (p .phase ≡ Network) ⊎ (p .phase ≡ Open) → isPapSent (p .pap .state) ≡ false
+    past : (p .phase ≡ Network) ⊎ (p .phase ≡ Open) → isAuthSent (p .auth) ≡ false
     past (inl e) = subst (λ f. Own f p) e own .2
     past (inr e) = subst (λ f. Own f p) e own
 
 -- ---- new and open
 
-fresh-sound : (a : Pap) → Sound (freshWith a)
+fresh-sound : (a : authentication.Auth) → Sound (freshWith a)
 fresh-sound a = rests-by (freshWith a) refl refl tt .sound
 
 pub sound-new : (name password : List ℕ) → Sound (newOf name password .ppp)
@@ -106,7 +97,7 @@ sound-new name password =
 pub sound-open : {p : Ppp} → Sound p → Sound (openOf p .ppp)
 sound-open {p} s = cond-by (λ (t : PppTurn). Sound (t .ppp)) (isDead (p .phase)) opened (λ _. s)
   where
-    waits : (Establish ≡ Network) ⊎ (Establish ≡ Open) → isPapSent (p .pap .state) ≡ false
+    waits : (Establish ≡ Network) ⊎ (Establish ≡ Open) → isAuthSent (p .auth) ≡ false
     waits (inl e) = apart cc
     waits (inr e) = apart cc
 
@@ -186,34 +177,8 @@ module _ (f : OptionFsm) where
   unfolding protocolRejectOf
   reject-near pkt = cond-all (λ (t : Reaction). Near (f .state) (t .fsm .state)) (ltb 122 (length pkt)) (λ _. refl) (λ _. refl)
 
--- PAP's state stays, or an Ack opens it
-abbrev PapNear : PapState → PapState → Type 0
-PapNear a b = (b ≡ a) ⊎ ((a ≡ papState.ReqSent) × (b ≡ papState.Opened))
-
-pap-near : (p : Pap) (pkt : List ℕ) → PapNear (p .state) (papHandleOf p pkt .pap .state)
-unfolding papHandleOf papActOf papRequested
-pap-near p pkt =
-    let P : PapTurn → Type 0 = λ t. PapNear (p .state) (t .pap .state) in
-    let c = getD pkt 2 0 in
-    let s = isPapSent (p .state) in
-    cond-all P (ltb (length pkt) 6) (inl refl)
-    (cond-all P (ltb (length pkt) (lengthField pkt)) (inl refl)
-    (cond-all P (ltb (length pkt) (lengthField pkt + 2)) (inl refl)
-    (cond-by P (s && eqb c 2) (λ e. inr (is-sent (p .state) (both s (eqb c 2) e .0), refl)) (λ _. cond-all P (s && eqb c 3) (inl refl) (inl refl)))))
-
 stays-closed : {s t : State} → s ≡ Closed → Near s t → t ≡ Closed
 stays-closed {s} {t} e n = is-closed t (n (ap isOpened e) ∙ ap isClosed e)
-
-stays-idle : {a b : PapState} → isPapSent a ≡ false → PapNear a b → b ≡ a
-stays-idle s (inl e) = e
-stays-idle s (inr (e, _)) = absurd (true≢false (sym (ap isPapSent e) ∙ s))
-
-stays-unsent : {a b : PapState} → isPapSent a ≡ false → PapNear a b → isPapSent b ≡ false
-stays-unsent s n = ap isPapSent (stays-idle s n) ∙ s
-
-stays-sent : {a b : PapState} → a ≡ papState.ReqSent → isPapOpened b ≡ false → PapNear a b → b ≡ papState.ReqSent
-stays-sent s o (inl e) = e ∙ s
-stays-sent s o (inr (_, e)) = absurd (true≢false (sym (ap isPapOpened e) ∙ o))
 
 -- ---- what a received packet leaves
 
@@ -221,11 +186,11 @@ record Heard (p q : Ppp) : Type 0 where
   phase : q .phase ≡ p .phase
   opening : q .opening ≡ p .opening
   lcp : Near (p .lcp .state) (q .lcp .state)
-  pap : PapNear (p .pap .state) (q .pap .state)
+  auth : AuthNear (p .auth) (q .auth)
   ipv4cp : Near (p .ipv4cp .state) (q .ipv4cp .state)
 
 heard-lcp : (p : Ppp) (a : LcpFsm) → Near (p .lcp .state) (a .state) → Heard p (withLcp p a)
-heard-lcp p a n = record { phase = refl; opening = refl; lcp = n; pap = inl refl; ipv4cp = λ _. refl }
+heard-lcp p a n = record { phase = refl; opening = refl; lcp = n; auth = auth.near-same (p .auth); ipv4cp = λ _. refl }
 
 heard-none : (p : Ppp) → Heard p p
 heard-none p = heard-lcp p (p .lcp) (λ _. refl)
@@ -237,28 +202,28 @@ received-heard p pkt =
     let n = protocolIn pkt in
     cond-all P (ltb (length pkt) 2) (heard-none p)
     (cond-all P (eqb n 0xC021) (heard-lcp p _ (handle-near (lcpIn (p .lcp)) pkt))
-    (cond-all P (eqb n 0xC023) (record { phase = refl; opening = refl; lcp = λ _. refl; pap = pap-near (p .pap) pkt; ipv4cp = λ _. refl })
+    (cond-all P (eqb n 0xC023) (record { phase = refl; opening = refl; lcp = λ _. refl; auth = auth.handle-near (p .auth) pkt; ipv4cp = λ _. refl })
     (cond-all P (eqb n 0x0021) (heard-none p)
-    (cond-all P (eqb n 0x8021) (record { phase = refl; opening = refl; lcp = λ _. refl; pap = inl refl; ipv4cp = handle-near (ipv4cpIn (p .ipv4cp)) pkt })
+    (cond-all P (eqb n 0x8021) (record { phase = refl; opening = refl; lcp = λ _. refl; auth = auth.near-same (p .auth); ipv4cp = handle-near (ipv4cpIn (p .ipv4cp)) pkt })
     (heard-lcp p _ (reject-near (lcpIn (p .lcp)) pkt))))))
 
 -- ---- what a phase step finds
 
--- where a phase step may open PAP or IPv4CP, it finds it Closed
+-- where a phase step may open authentication or IPv4CP, it finds it Closed
 pub record Ready (p : Ppp) : Type 0 where
-  pub establish : p .phase ≡ Establish → isClosed (p .lcp .state) ≡ false → (p .ipv4cp .state ≡ Closed) × (p .pap .state ≡ papState.Closed)
+  pub establish : p .phase ≡ Establish → isClosed (p .lcp .state) ≡ false → (p .ipv4cp .state ≡ Closed) × (isAuthClosed (p .auth) ≡ true)
   pub auth : p .phase ≡ Auth → p .ipv4cp .state ≡ Closed
 
 heard-ready : {p q : Ppp} → Heard p q → Sound p → Ready q
 heard-ready {p} {q} h s = record { establish = establish; auth = λ e. stays-closed (s .auth (sym (h .phase) ∙ e) .1) (h .ipv4cp) }
   where
-    establish : q .phase ≡ Establish → isClosed (q .lcp .state) ≡ false → (q .ipv4cp .state ≡ Closed) × (q .pap .state ≡ papState.Closed)
+    establish : q .phase ≡ Establish → isClosed (q .lcp .state) ≡ false → (q .ipv4cp .state ≡ Closed) × (isAuthClosed (q .auth) ≡ true)
     establish e c =
         let f : p .phase ≡ Establish = sym (h .phase) ∙ e in
         let closed : isClosed (p .lcp .state) ≡ p .opening = rw f at (s .closed) in
         let shut = by-test (p .opening) (λ o. closed-shut (p .lcp .state) (closed ∙ o)) (λ o. s .establish f o .0) in
         let own = s .establish f (sym closed ∙ sym (h .lcp shut) ∙ c) in
-        (stays-closed (own .1) (h .ipv4cp), stays-idle (ap isPapSent (own .2)) (h .pap) ∙ own .2)
+        (stays-closed (own .1) (h .ipv4cp), h .auth .closed (own .2))
 
 pub ready : {p : Ppp} → Sound p → Ready p
 ready {p} s = heard-ready (heard-none p) s
@@ -279,10 +244,10 @@ settled-rests p o d own =
 alive : {t : Bool} → false ≡ true → t ≡ true
 alive e = absurd (false≢true e)
 
-auth-rests : (p : Ppp) (a : AuthType) → p .opening ≡ false → p .ipv4cp .state ≡ Closed → p .pap .state ≡ papState.Closed → Rests (settled (byAuth a p .ppp))
-unfolding openedFsm requested openedPap papRequested
-auth-rests p authType.None o i a = settled-rests (opensIpv4cp p .ppp) o alive (λ _. (refl, refl, ap isPapSent a))
-auth-rests p authType.Pap o i a = settled-rests (opensPap p .ppp) o alive (λ _. (refl, i))
+auth-rests : (p : Ppp) (a : AuthType) → p .opening ≡ false → p .ipv4cp .state ≡ Closed → isAuthClosed (p .auth) ≡ true → Rests (settled (byAuth a p .ppp))
+unfolding openedFsm requested
+auth-rests p authType.None o i a = settled-rests (opensIpv4cp p .ppp) o alive (λ _. (refl, refl, auth.closed-unsent (p .auth) a))
+auth-rests p authType.Pap o i a = settled-rests (opensAuth p .ppp) o alive (λ _. (auth.opens-sent (p .auth), i))
 
 -- a packet, then a phase step; the phase is an argument of its own, to be taken by cases
 module _ (p q : Ppp) (h : Heard p q) where
@@ -295,28 +260,28 @@ module _ (p q : Ppp) (h : Heard p q) where
       let r = withPhase q Establish in
       let shut = by-test (p .opening) (λ o. closed-shut (p .lcp .state) (s .closed ∙ o)) (λ o. s .establish refl o .0) in
       cond-by P (isClosed (q .lcp .state))
-      (λ _. settled-rests (closesIpv4cp (closesPap (opensLcp r .ppp))) refl alive (λ _. (refl, refl, refl)))
+      (λ _. settled-rests (closesIpv4cp (closesAuth (opensLcp r .ppp))) refl alive (λ _. (refl, refl, auth.closes-closed (q .auth))))
       (λ c. let o : p .opening ≡ false = s .opens ∙ sym (h .lcp shut) ∙ c in
       let e = s .establish refl o in
       cond-by P (isOpened (q .lcp .state))
-      (λ _. auth-rests r (q .lcp .proto .auth) (h .opening ∙ o) (stays-closed (e .1) (h .ipv4cp)) (stays-idle (ap isPapSent (e .2)) (h .pap) ∙ e .2))
-      (λ n. settled-rests (closesIpv4cp (closesPap r)) (h .opening ∙ o) alive (λ _. (n, refl, refl))))
+      (λ _. auth-rests r (q .lcp .proto .auth) (h .opening ∙ o) (stays-closed (e .1) (h .ipv4cp)) (h .auth .closed (e .2)))
+      (λ n. settled-rests (closesIpv4cp (closesAuth r)) (h .opening ∙ o) alive (λ _. (n, refl, auth.closes-closed (q .auth)))))
   step-rests Auth s =
       let P : Step → Type 0 = λ t. Rests (settled (t .ppp)) in
       let r = withPhase q Auth in
       let o = h .opening ∙ s .opens in
-      cond-by P (isPapOpened (q .pap .state))
-      (λ a. settled-rests (opensIpv4cp r .ppp) o alive (λ _. (refl, refl, opened-unsent (q .pap .state) a)))
-      (λ a. settled-rests (closesIpv4cp r) o alive (λ _. (stays-sent (s .auth refl .0) a (h .pap), refl)))
+      cond-by P (isAuthOpened (q .auth))
+      (λ a. settled-rests (opensIpv4cp r .ppp) o alive (λ _. (refl, refl, auth.opened-unsent (q .auth) a)))
+      (λ a. settled-rests (closesIpv4cp r) o alive (λ _. (h .auth .sent (s .auth refl .0) a, refl)))
   step-rests Network s =
       let r = withPhase q Network in
       let o = h .opening ∙ s .opens in
       let n = s .network refl in
-      let unsent = stays-unsent (s .past (inl refl)) (h .pap) in
+      let unsent = h .auth .unsent (s .past (inl refl)) in
       cond-by (λ (t : Ppp). Rests (settled t)) (isOpened (q .ipv4cp .state))
       (λ _. settled-rests (withPhase q Open) o alive (λ _. unsent))
       (λ m. settled-rests r o alive (λ _. (h .ipv4cp (n .1) ∙ n .0, m, unsent)))
-  step-rests Open s = settled-rests (withPhase q Open) (h .opening ∙ s .opens) alive (λ _. stays-unsent (s .past (inr refl)) (h .pap))
+  step-rests Open s = settled-rests (withPhase q Open) (h .opening ∙ s .opens) alive (λ _. h .auth .unsent (s .past (inr refl)))
 
   heard-rests : Sound p → Rests (phaseOf q .ppp)
   heard-rests s = subst (λ f. Rests (phaseOf (withPhase q f) .ppp)) (sym (h .phase)) (step-rests (p .phase) s)
@@ -328,8 +293,8 @@ unfolding phaseOf restsOf
 step-none Dead p s o = cond-all (λ (r : Ppp). stepTo r [] ≡ stepTo (withPhase p Dead) []) (diesOf p) refl refl
 step-none Establish p s o =
     let e = s .establish refl o in
-    rests-still (withPhase p Establish) (rw (s .closed ∙ o, e .0, ap isPapClosed (e .2), ap isClosed (e .1)) refl)
-step-none Auth p s o = let e = s .auth refl in rests-still (withPhase p Auth) (rw (ap isPapOpened (e .0), ap isClosed (e .1), s .closed ∙ o) refl)
+    rests-still (withPhase p Establish) (rw (s .closed ∙ o, e .0, e .2, ap isClosed (e .1)) refl)
+step-none Auth p s o = let e = s .auth refl in rests-still (withPhase p Auth) (rw (auth.sent-unopened (p .auth) (e .0), ap isClosed (e .1), s .closed ∙ o) refl)
 step-none Network p s o = rests-still (withPhase p Network) (rw (s .network refl .1, s .closed ∙ o) refl)
 step-none Open p s o = rests-still (withPhase p Open) (rw (s .closed ∙ o) refl)
 

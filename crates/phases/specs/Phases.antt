@@ -11,7 +11,8 @@ use Rattle.negotiation.specs.Replies.{repliesOf}
 use Rattle.options.specs.Lcp.{freshLcp}
 use Rattle.options.specs.Ipv4cp.{freshIpv4cp, shown, shownIp}
 use Rattle.negotiation.specs.Automaton.{isClosed, isOpened, Reaction, handleOf, protocolRejectOf, openedFsm}
-use Rattle.negotiation.specs.Pap.{isPapOpened, fitsCredentials, papWith, withPapState, PapTurn, papHandleOf, openedPap}
+use Rattle.negotiation.specs.Credentials.{fitsCredentials, credentialsWith}
+use Rattle.negotiation.specs.Auth.{authWith, isAuthClosed, isAuthOpened, AuthTurn, authHandleOf, openedAuth, closedAuth}
 use Rattle.options.specs.declared.refusal.Refusal.{Refusal}
 use Rattle.options.specs.declared.refusal.Refusal.the-variants.{NotDead, CredentialsLong, PacketShort}
 use Rattle.options.specs.declared.refusal.Outcome.{Outcome}
@@ -27,9 +28,7 @@ use Rattle.negotiation.specs.declared.states.State.{State}
 use Rattle.negotiation.specs.declared.states.State.the-variants.{Closed}
 use Rattle.negotiation.specs.declared.option_fsm.OptionFsm.{OptionFsm}
 use Rattle.negotiation.specs.declared.option_fsm.Handled.{Handled}
-use Rattle.negotiation.specs.declared.pap.Pap as pap
-use Rattle.negotiation.specs.declared.pap.PapState.{PapState}
-use Rattle.negotiation.specs.declared.pap.PapState.the-variants as papState
+use Rattle.negotiation.specs.declared.auth.Auth as auth
 use Rattle.phases.specs.declared.ppp.Phase.{Phase}
 use Rattle.phases.specs.declared.ppp.Phase.the-variants.{Dead, Establish, Auth, Network, Open}
 use Rattle.phases.specs.declared.ppp.LcpFsm.{LcpFsm}
@@ -43,33 +42,33 @@ use Rattle.phases.specs.declared.ppp.Turned.{Turned}
 
 -- ---- the record
 
-abbrev pub freshWith : pap.Pap → Ppp
+abbrev pub freshWith : auth.Auth → Ppp
 freshWith a =
     record {
       phase = Dead;
       opening = false;
       lcp = record { id = 1; state = Closed; proto = freshLcp };
-      pap = a;
+      auth = a;
       ipv4cp = record { id = 1; state = Closed; proto = freshIpv4cp };
     }
 
 abbrev pub freshPpp : List ℕ → List ℕ → Ppp
-freshPpp name password = freshWith (papWith name password)
+freshPpp name password = freshWith (authWith (credentialsWith name password))
 
 abbrev pub withPhase : Ppp → Phase → Ppp
-withPhase p f = record { phase = f; opening = p .opening; lcp = p .lcp; pap = p .pap; ipv4cp = p .ipv4cp }
+withPhase p f = record { phase = f; opening = p .opening; lcp = p .lcp; auth = p .auth; ipv4cp = p .ipv4cp }
 
 abbrev pub withOpening : Ppp → Bool → Ppp
-withOpening p o = record { phase = p .phase; opening = o; lcp = p .lcp; pap = p .pap; ipv4cp = p .ipv4cp }
+withOpening p o = record { phase = p .phase; opening = o; lcp = p .lcp; auth = p .auth; ipv4cp = p .ipv4cp }
 
 abbrev pub withLcp : Ppp → LcpFsm → Ppp
-withLcp p a = record { phase = p .phase; opening = p .opening; lcp = a; pap = p .pap; ipv4cp = p .ipv4cp }
+withLcp p a = record { phase = p .phase; opening = p .opening; lcp = a; auth = p .auth; ipv4cp = p .ipv4cp }
 
-abbrev pub withPap : Ppp → pap.Pap → Ppp
-withPap p a = record { phase = p .phase; opening = p .opening; lcp = p .lcp; pap = a; ipv4cp = p .ipv4cp }
+abbrev pub withAuth : Ppp → auth.Auth → Ppp
+withAuth p a = record { phase = p .phase; opening = p .opening; lcp = p .lcp; auth = a; ipv4cp = p .ipv4cp }
 
 abbrev pub withIpv4cp : Ppp → Ipv4cpFsm → Ppp
-withIpv4cp p a = record { phase = p .phase; opening = p .opening; lcp = p .lcp; pap = p .pap; ipv4cp = a }
+withIpv4cp p a = record { phase = p .phase; opening = p .opening; lcp = p .lcp; auth = p .auth; ipv4cp = a }
 
 -- an automaton for the step, and back
 abbrev pub lcpIn : LcpFsm → OptionFsm
@@ -115,8 +114,8 @@ lcpTurn p t = record { outcome = t .outcome; echoed = t .echoed; ppp = withLcp p
 abbrev pub ipv4cpTurn : Ppp → Reaction → PppTurn
 ipv4cpTurn p t = record { outcome = t .outcome; echoed = t .echoed; ppp = withIpv4cp p (ipv4cpOut (t .fsm) (p .ipv4cp)); sent = t .sent }
 
-abbrev pub papTurn : Ppp → PapTurn → PppTurn
-papTurn p t = record { outcome = t .outcome; echoed = false; ppp = withPap p (t .pap); sent = t .sent }
+abbrev pub authTurn : Ppp → AuthTurn → PppTurn
+authTurn p t = record { outcome = t .outcome; echoed = false; ppp = withAuth p (t .auth); sent = t .sent }
 
 -- Protocol-Reject goes out under LCP's id, in every phase
 unfoldable pub rejectOf : Ppp → List ℕ → PppTurn
@@ -127,7 +126,7 @@ unfoldable pub receivedOf : Ppp → List ℕ → PppTurn
 receivedOf p pkt =
     cond (ltb (length pkt) 2) (pppRefused p PacketShort)
     (cond (eqb (protocolIn pkt) 0xC021) (lcpTurn p (handleOf (lcpIn (p .lcp)) pkt))
-    (cond (eqb (protocolIn pkt) 0xC023) (papTurn p (papHandleOf (p .pap) pkt))
+    (cond (eqb (protocolIn pkt) 0xC023) (authTurn p (authHandleOf (p .auth) pkt))
     (cond (eqb (protocolIn pkt) 0x0021) (pppTurned p [])
     (cond (eqb (protocolIn pkt) 0x8021) (ipv4cpTurn p (handleOf (ipv4cpIn (p .ipv4cp)) pkt))
     (rejectOf p pkt)))))
@@ -152,28 +151,28 @@ opensIpv4cp p =
     stepTo (withPhase (withIpv4cp p (ipv4cpOut (openedFsm (ipv4cpIn (p .ipv4cp)) .fsm) (p .ipv4cp))) Network)
     (openedFsm (ipv4cpIn (p .ipv4cp)) .sent)
 
-abbrev pub opensPap : Ppp → Step
-opensPap p = stepTo (withPhase (withPap p (openedPap (p .pap) .pap)) Auth) (openedPap (p .pap) .sent)
+abbrev pub opensAuth : Ppp → Step
+opensAuth p = stepTo (withPhase (withAuth p (openedAuth (p .auth) .auth)) Auth) (openedAuth (p .auth) .sent)
 
 abbrev pub closesIpv4cp : Ppp → Ppp
 closesIpv4cp p = withIpv4cp p (record { id = p .ipv4cp .id; state = Closed; proto = p .ipv4cp .proto })
 
-abbrev pub closesPap : Ppp → Ppp
-closesPap p = withPap p (withPapState (p .pap) papState.Closed)
+abbrev pub closesAuth : Ppp → Ppp
+closesAuth p = withAuth p (closedAuth (p .auth))
 
 abbrev pub byAuth : AuthType → Ppp → Step
 byAuth None p = opensIpv4cp p
-byAuth Pap p = opensPap p
+byAuth Pap p = opensAuth p
 
 -- an LCP that is Closed is opened, so it is not Opened in the same step
 unfoldable pub establishOf : Ppp → Step
 establishOf p =
-    cond (isClosed (p .lcp .state)) (stepTo (closesIpv4cp (closesPap (opensLcp p .ppp))) (opensLcp p .sent))
+    cond (isClosed (p .lcp .state)) (stepTo (closesIpv4cp (closesAuth (opensLcp p .ppp))) (opensLcp p .sent))
     (cond (isOpened (p .lcp .state)) (byAuth (p .lcp .proto .auth) p)
-    (stepTo (closesIpv4cp (closesPap p)) []))
+    (stepTo (closesIpv4cp (closesAuth p)) []))
 
 unfoldable pub authOf : Ppp → Step
-authOf p = cond (isPapOpened (p .pap .state)) (opensIpv4cp p) (stepTo (closesIpv4cp p) [])
+authOf p = cond (isAuthOpened (p .auth)) (opensIpv4cp p) (stepTo (closesIpv4cp p) [])
 
 unfoldable pub networkOf : Ppp → Step
 networkOf p = stepTo (cond (isOpened (p .ipv4cp .state)) (withPhase p Open) p) []
@@ -195,22 +194,17 @@ settled p = cond (diesOf p) (withPhase p Dead) p
 unfoldable pub phaseOf : Ppp → Step
 phaseOf p = stepTo (settled (byPhase (p .phase) p .ppp)) (byPhase (p .phase) p .sent)
 
-abbrev pub isPapClosed : PapState → Bool
-isPapClosed papState.Closed = true
-isPapClosed papState.ReqSent = false
-isPapClosed papState.Opened = false
-
--- by the states of LCP, PAP and IPv4CP
-abbrev pub restsIn : Phase → State → PapState → State → Bool
-restsIn Dead l a i = true
-restsIn Establish l a i = not (isClosed l) && not (isOpened l) && isPapClosed a && isClosed i
-restsIn Auth l a i = not (isPapOpened a) && isClosed i
-restsIn Network l a i = not (isOpened i)
-restsIn Open l a i = true
+-- by the state of LCP, whether authentication is Closed or Opened, and the state of IPv4CP
+abbrev pub restsIn : Phase → State → Bool → Bool → State → Bool
+restsIn Dead l shut up i = true
+restsIn Establish l shut up i = not (isClosed l) && not (isOpened l) && shut && isClosed i
+restsIn Auth l shut up i = not up && isClosed i
+restsIn Network l shut up i = not (isOpened i)
+restsIn Open l shut up i = true
 
 -- a step finds nothing to open or close, and the link does not die
 unfoldable pub restsOf : Ppp → Bool
-restsOf p = restsIn (p .phase) (p .lcp .state) (p .pap .state) (p .ipv4cp .state) && not (diesOf p)
+restsOf p = restsIn (p .phase) (p .lcp .state) (isAuthClosed (p .auth)) (isAuthOpened (p .auth)) (p .ipv4cp .state) && not (diesOf p)
 
 -- ---- the calls
 
@@ -237,7 +231,7 @@ isDead Open = false
 abbrev pub openOf : Ppp → PppTurn
 openOf p = cond (isDead (p .phase)) (pppTurned (withOpening (withPhase p Establish) true) []) (pppRefused p NotDead)
 
--- credentials above 120 bytes together: a fresh record with both empty
+-- credentials that do not fit: a fresh record with both empty
 abbrev pub newOf : List ℕ → List ℕ → PppTurn
 newOf name password =
     cond (fitsCredentials (length name) (length password))

@@ -1,7 +1,8 @@
 // One phase step: what it opens and closes, and at most one packet.
 ghost use mathlib.Core.Path.{_≡_};
+ghost use mathlib.Core.Bool.{false};
 ghost use mathlib.Core.List.{[]};
-ghost use Rattle.phases.specs.Phases.{stepTo, opensLcp, opensIpv4cp, opensPap, closesIpv4cp, closesPap, establishOf, authOf, networkOf, byPhase, diesOf, settled, phaseOf, steppedAs, isPapClosed, restsIn, restsOf};
+ghost use Rattle.phases.specs.Phases.{stepTo, opensLcp, opensIpv4cp, opensAuth, closesIpv4cp, closesAuth, establishOf, authOf, networkOf, byPhase, diesOf, settled, phaseOf, steppedAs, restsIn, restsOf};
 use crate::ppp::Ipv4cpFsm;
 use crate::ppp::Phase;
 use crate::ppp::Ppp;
@@ -9,8 +10,6 @@ use crate::slots::ipv4cp_in;
 use crate::slots::ipv4cp_out;
 use crate::slots::lcp_in;
 use crate::slots::lcp_out;
-use negotiation::pap::PapState;
-use negotiation::pap::is_pap_opened;
 use negotiation::replies::Replies;
 use negotiation::states::State;
 use negotiation::states::is_closed;
@@ -23,18 +22,9 @@ pub struct Stepped {
     pub replies: Replies,
 }
 
-fn is_pap_closed(s: PapState) -> bool
-    ensures { λ r. ⌜ r ≡ isPapClosed s ⌝ }
-{
-    match s {
-        PapState::Closed => true,
-        PapState::ReqSent => false,
-        PapState::Opened => false,
-    }
-}
-
-fn establish_rests(l: State, a: PapState, i: State) -> bool
-    ensures { λ r. ⌜ r ≡ restsIn Phase.Establish l a i ⌝ }
+// In Establish it does not count whether authentication is Opened.
+fn establish_rests(l: State, shut: bool, i: State) -> bool
+    ensures { λ r. ⌜ r ≡ restsIn Phase.Establish l shut false i ⌝ }
 {
     if is_closed(l) {
         return false;
@@ -42,16 +32,17 @@ fn establish_rests(l: State, a: PapState, i: State) -> bool
     if is_opened(l) {
         return false;
     }
-    is_pap_closed(a) && is_closed(i)
+    shut && is_closed(i)
 }
 
-fn rests_in(f: Phase, l: State, a: PapState, i: State) -> bool
-    ensures { λ r. ⌜ r ≡ restsIn f l a i ⌝ }
+// `shut` and `up`: whether authentication is Closed, and whether it is Opened.
+fn rests_in(f: Phase, l: State, shut: bool, up: bool, i: State) -> bool
+    ensures { λ r. ⌜ r ≡ restsIn f l shut up i ⌝ }
 {
     match f {
         Phase::Dead => true,
-        Phase::Establish => establish_rests(l, a, i),
-        Phase::Auth => !is_pap_opened(a) && is_closed(i),
+        Phase::Establish => establish_rests(l, shut, i),
+        Phase::Auth => !up && is_closed(i),
         Phase::Network => !is_opened(i),
         Phase::Open => true,
     }
@@ -84,15 +75,15 @@ impl Ppp {
         }
     }
 
-    fn open_pap(self) -> Stepped
-        ensures { λ s. ⌜ s ≡ steppedAs (opensPap self) ⌝ }
+    fn open_auth(self) -> Stepped
+        ensures { λ s. ⌜ s ≡ steppedAs (opensAuth self) ⌝ }
     {
-        let b = self.pap;
+        let b = self.auth;
         let h = b.open();
-        let q = h.pap;
+        let q = h.auth;
         let r = h.replies;
         Stepped {
-            ppp: self.with_pap(q).with_phase(Phase::Auth),
+            ppp: self.with_auth(q).with_phase(Phase::Auth),
             replies: r,
         }
     }
@@ -109,11 +100,11 @@ impl Ppp {
         })
     }
 
-    fn close_pap(self) -> Self
-        ensures { λ r. ⌜ r ≡ closesPap self ⌝ }
+    fn close_auth(self) -> Self
+        ensures { λ r. ⌜ r ≡ closesAuth self ⌝ }
     {
-        let b = self.pap;
-        self.with_pap(b.close())
+        let b = self.auth;
+        self.with_auth(b.close())
     }
 
     fn still(self) -> Stepped
@@ -135,7 +126,7 @@ impl Ppp {
             let p = o.ppp;
             let r = o.replies;
             return Stepped {
-                ppp: p.close_pap().close_ipv4cp(),
+                ppp: p.close_auth().close_ipv4cp(),
                 replies: r,
             };
         }
@@ -144,18 +135,17 @@ impl Ppp {
             let auth = l.auth;
             return match auth {
                 AuthType::None => self.open_ipv4cp(),
-                AuthType::Pap => self.open_pap(),
+                AuthType::Pap => self.open_auth(),
             };
         }
-        self.close_pap().close_ipv4cp().still()
+        self.close_auth().close_ipv4cp().still()
     }
 
     fn authenticate(self) -> Stepped
         ensures { λ s. ⌜ s ≡ steppedAs (authOf self) ⌝ }
     {
-        let b = self.pap;
-        let s = b.state;
-        if is_pap_opened(s) {
+        let b = self.auth;
+        if b.opened() {
             return self.open_ipv4cp();
         }
         self.close_ipv4cp().still()
@@ -221,11 +211,10 @@ impl Ppp {
     {
         let f = self.phase;
         let a = self.lcp;
-        let b = self.pap;
+        let b = self.auth;
         let c = self.ipv4cp;
         let l = a.state;
-        let s = b.state;
         let i = c.state;
-        rests_in(f, l, s, i) && !self.dies()
+        rests_in(f, l, b.closed(), b.opened(), i) && !self.dies()
     }
 }

@@ -1,15 +1,15 @@
-// The link's phases: packets go to LCP, PAP or IPv4CP, and each call takes one phase step.
+// The link's phases: packets go to LCP, authentication or IPv4CP, and each call takes one phase step.
 ghost use mathlib.Core.Path.{_≡_};
 ghost use Rattle.negotiation.specs.Automaton.{handleOf};
-ghost use Rattle.negotiation.specs.Pap.{papHandleOf};
-ghost use Rattle.phases.specs.Phases.{freshWith, lcpIn, ipv4cpIn, pppRefused, lcpTurn, lcpTurned, papTurn, ipv4cpTurn, rejectOf, receivedOf, isDead, pollOf, turnOf, openOf, newOf, addressesOf, statusOf, turnedAs, Changes, Turns};
+ghost use Rattle.phases.specs.Phases.{freshWith, lcpIn, ipv4cpIn, pppRefused, lcpTurn, lcpTurned, ipv4cpTurn, rejectOf, receivedOf, isDead, pollOf, turnOf, openOf, newOf, addressesOf, statusOf, turnedAs, Changes, Turns, authTurn};
+ghost use Rattle.negotiation.specs.Auth.{authHandleOf};
 use crate::slots::ipv4cp_in;
 use crate::slots::ipv4cp_out;
 use crate::slots::lcp_in;
 use crate::slots::lcp_out;
+use negotiation::auth::Auth;
+use negotiation::credentials::is_within;
 use negotiation::option_fsm::Handled;
-use negotiation::pap::Pap;
-use negotiation::pap::is_within;
 use negotiation::replies::Replies;
 use negotiation::states::State;
 use negotiation::states::is_opened;
@@ -49,7 +49,7 @@ pub struct Ppp {
     pub phase: Phase,
     pub opening: bool,
     pub lcp: LcpFsm,
-    pub pap: Pap,
+    pub auth: Auth,
     pub ipv4cp: Ipv4cpFsm,
 }
 
@@ -110,8 +110,8 @@ fn addresses_of(i: Ipv4cp) -> Addresses
 }
 
 impl Ppp {
-    fn fresh(pap: Pap) -> Self
-        ensures { λ r. ⌜ r ≡ freshWith pap ⌝ }
+    fn fresh(auth: Auth) -> Self
+        ensures { λ r. ⌜ r ≡ freshWith auth ⌝ }
     {
         Ppp {
             phase: Phase::Dead,
@@ -121,7 +121,7 @@ impl Ppp {
                 state: State::Closed,
                 proto: Lcp::new(),
             },
-            pap,
+            auth,
             ipv4cp: Ipv4cpFsm {
                 id: 1,
                 state: State::Closed,
@@ -130,11 +130,11 @@ impl Ppp {
         }
     }
 
-    // Phase Dead. Name and password above 120 bytes together are refused, and the record has neither.
+    // Phase Dead. Name and password that are too long together are refused, and the record has neither.
     pub fn new(username: &[u8], password: &[u8]) -> Changed
         ensures { λ r. ⌜ Changes (newOf (now (username .entry)) (now (password .entry))) (r .outcome) (r .ppp) ⌝ }
     {
-        let p = Ppp::fresh(Pap::new(username, password));
+        let p = Ppp::fresh(Auth::new(username, password));
         if is_within(username.len(), password.len()) {
             return Changed {
                 outcome: Outcome::Done,
@@ -220,17 +220,17 @@ impl Ppp {
     }
 
     fn received_pap(self, pkt: &[u8]) -> Turned
-        ensures { λ t. ⌜ t ≡ turnedAs (papTurn self (papHandleOf (self .pap) (now (pkt .entry)))) ⌝ }
+        ensures { λ t. ⌜ t ≡ turnedAs (authTurn self (authHandleOf (self .auth) (now (pkt .entry)))) ⌝ }
     {
-        let b = self.pap;
-        let h = b.handle(pkt);
+        let b = self.auth;
+        let h = b.handle_pap(pkt);
         let o = h.outcome;
-        let q = h.pap;
+        let q = h.auth;
         let r = h.replies;
         Turned {
             outcome: o,
             echoed: false,
-            ppp: self.with_pap(q),
+            ppp: self.with_auth(q),
             replies: r,
         }
     }

@@ -1,12 +1,12 @@
 // The record's parts: an automaton goes into the step as an enum and comes back unwrapped.
 ghost use mathlib.Core.Path.{_≡_};
-ghost use Rattle.phases.specs.Phases.{withPhase, withLcp, withPap, withIpv4cp, lcpIn, lcpOr, lcpOut, ipv4cpIn, ipv4cpOr, ipv4cpOut};
+ghost use Rattle.phases.specs.Phases.{withPhase, withLcp, withAuth, withIpv4cp, lcpIn, lcpOr, lcpOut, ipv4cpIn, ipv4cpOr, ipv4cpOut};
 use crate::ppp::Ipv4cpFsm;
 use crate::ppp::LcpFsm;
 use crate::ppp::Phase;
 use crate::ppp::Ppp;
+use negotiation::auth::Auth;
 use negotiation::option_fsm::OptionFsm;
-use negotiation::pap::Pap;
 use options::ipv4cp::Ipv4cp;
 use options::lcp::Lcp;
 use options::proto::Proto;
@@ -85,13 +85,13 @@ impl Ppp {
         ensures { λ r. ⌜ r ≡ withPhase self f ⌝ }
     {
         let a = self.lcp;
-        let b = self.pap;
+        let b = self.auth;
         let c = self.ipv4cp;
         Ppp {
             phase: f,
             opening: self.opening,
             lcp: a,
-            pap: b,
+            auth: b,
             ipv4cp: c,
         }
     }
@@ -104,11 +104,11 @@ impl Ppp {
         p
     }
 
-    pub(crate) fn with_pap(self, b: Pap) -> Self
-        ensures { λ r. ⌜ r ≡ withPap self b ⌝ }
+    pub(crate) fn with_auth(self, b: Auth) -> Self
+        ensures { λ r. ⌜ r ≡ withAuth self b ⌝ }
     {
         let mut p = self;
-        p.pap = b;
+        p.auth = b;
         p
     }
 

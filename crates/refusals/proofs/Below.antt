@@ -14,11 +14,11 @@ use Rattle.options.specs.declared.refusal.Outcome.{Outcome}
 use Rattle.options.specs.declared.refusal.Outcome.the-variants.{Done, Refused}
 use Rattle.negotiation.specs.Replies.{repliesOf}
 use Rattle.negotiation.specs.Automaton.{handled, handleOf, protocolRejectOf}
-use Rattle.negotiation.specs.Pap.{papHandled, papHandleOf}
+use Rattle.negotiation.specs.Auth.{authHandled, authHandleOf}
 use Rattle.negotiation.specs.declared.option_fsm.OptionFsm.{OptionFsm}
 use Rattle.negotiation.specs.declared.option_fsm.Handled.{Handled}
-use Rattle.negotiation.specs.declared.pap.Pap.{Pap}
-use Rattle.negotiation.specs.declared.pap.PapHandled.{PapHandled}
+use Rattle.negotiation.specs.declared.auth.Auth.{Auth}
+use Rattle.negotiation.specs.declared.auth.AuthHandled.{AuthHandled}
 use Rattle.negotiation.specs.declared.replies.Replies.{Replies}
 use Rattle.negotiation.proofs.Proper.{proper-handle}
 use Rattle.phases.specs.Phases.{receivedOf, turnOf, Turns}
@@ -71,10 +71,10 @@ reject-first f pkt {h} e =
     (λ l. rw (e, le-ltb _ _ l) (inr ((λ k. omega arith), refl)))
     (λ l. rw (e, lt-ltb _ _ l) (inl (refl, omega arith, (refl, refl, count-of []))))
 
-pub pap-first : (p : Pap) (pkt : List ℕ) {h : PapHandled} → h ≡ papHandled (papHandleOf p pkt)
-    → First (outcomeNumber (h .outcome)) (record { kept = h .pap; echoed = false; count = h .replies .count }) (papRows p pkt)
-pap-first p pkt {h} e = go (pap-by p pkt)
+pub pap-first : (a : Auth) (pkt : List ℕ) {h : AuthHandled} → h ≡ authHandled (authHandleOf a pkt)
+    → First (outcomeNumber (h .outcome)) (record { kept = h .auth; echoed = false; count = h .replies .count }) (papRows a pkt)
+pap-first a pkt {h} e = go (pap-by a pkt)
   where
-    go : PapBy p pkt → First (outcomeNumber (h .outcome)) (record { kept = h .pap; echoed = false; count = h .replies .count }) (papRows p pkt)
+    go : PapBy a pkt → First (outcomeNumber (h .outcome)) (record { kept = h .auth; echoed = false; count = h .replies .count }) (papRows a pkt)
     go (inl x) = rw (e, x .1) (inl (refl, x .0, (refl, refl, count-of [])))
-    go (inr x) = inr (x .0, ap (λ (h : PapHandled). outcomeNumber (h .outcome)) e ∙ ap outcomeNumber (x .1))
+    go (inr x) = inr (x .0, ap (λ (h : AuthHandled). outcomeNumber (h .outcome)) e ∙ ap outcomeNumber (x .1))

@@ -7,11 +7,11 @@ use Prim.Native.Nat.{ℕ}
 use Rattle.options.specs.Refusal.{outcomeNumber}
 use Rattle.options.specs.declared.refusal.Outcome.{Outcome}
 use Rattle.negotiation.specs.Automaton.{handled, handleOf, protocolRejectOf}
-use Rattle.negotiation.specs.Pap.{papHandled, papHandleOf}
+use Rattle.negotiation.specs.Auth.{authHandled, authHandleOf}
 use Rattle.negotiation.specs.declared.option_fsm.Handled.{Handled}
 use Rattle.negotiation.specs.declared.option_fsm.OptionFsm.{OptionFsm}
-use Rattle.negotiation.specs.declared.pap.Pap.{Pap}
-use Rattle.negotiation.specs.declared.pap.PapHandled.{PapHandled}
+use Rattle.negotiation.specs.declared.auth.Auth.{Auth}
+use Rattle.negotiation.specs.declared.auth.AuthHandled.{AuthHandled}
 use Rattle.negotiation.specs.declared.replies.Replies.{Replies}
 use Rattle.phases.specs.Phases.{newOf, openOf, turnOf, Changes, Turns}
 use Rattle.phases.specs.declared.ppp.Ppp.{Ppp}
@@ -31,13 +31,13 @@ pub record BelowHolds : Type 0 where
       → Exactly ⊥ (openRows (p .phase) p) (outcomeNumber o) p′
   pub turn : (p : Ppp) (pkt : List ℕ) {o : Outcome} {e : Bool} {p′ : Ppp} {rs : Replies} → Turns (turnOf p pkt) o e p′ rs
       → Exactly ⊥ (turnRows p pkt) (outcomeNumber o) (record { kept = p′; echoed = e; count = rs .count })
-  -- `OptionFsm::handle`, `OptionFsm::send_protocol_reject`, `Pap::handle`
+  -- `OptionFsm::handle`, `OptionFsm::send_protocol_reject`, `Auth::handle_pap`
   pub handle : (f : OptionFsm) (pkt : List ℕ) {h : Handled} → h ≡ handled (handleOf f pkt) → (outcomeNumber (h .outcome) ≡ 0 → ⊥)
       → Unchanged f (record { kept = h .fsm; echoed = h .echoed; count = h .replies .count })
   pub reject : (f : OptionFsm) (pkt : List ℕ) {h : Handled} → h ≡ handled (protocolRejectOf f pkt)
       → Exactly ⊥ (rejectRows f pkt) (outcomeNumber (h .outcome)) (record { kept = h .fsm; echoed = h .echoed; count = h .replies .count })
-  pub pap : (p : Pap) (pkt : List ℕ) {h : PapHandled} → h ≡ papHandled (papHandleOf p pkt)
-      → Exactly ⊥ (papRows p pkt) (outcomeNumber (h .outcome)) (record { kept = h .pap; echoed = false; count = h .replies .count })
+  pub pap : (a : Auth) (pkt : List ℕ) {h : AuthHandled} → h ≡ authHandled (authHandleOf a pkt)
+      → Exactly ⊥ (papRows a pkt) (outcomeNumber (h .outcome)) (record { kept = h .auth; echoed = false; count = h .replies .count })
 
 pub exactly-below : BelowHolds
 exactly-below =
@@ -47,5 +47,5 @@ exactly-below =
       turn = λ p pkt c. first-exactly _ _ (turnRows p pkt) (turn-first p pkt c) refl;
       handle = λ f pkt e z. handle-left f pkt e z;
       reject = λ f pkt e. first-exactly _ _ (rejectRows f pkt) (reject-first f pkt e) refl;
-      pap = λ p pkt e. first-exactly _ _ (papRows p pkt) (pap-first p pkt e) refl;
+      pap = λ a pkt e. first-exactly _ _ (papRows a pkt) (pap-first a pkt e) refl;
     }

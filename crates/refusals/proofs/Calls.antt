@@ -1,23 +1,23 @@
 -- The refusal table of the link's calls but poll: the first row that holds.
 -- Assumes nothing.
 use mathlib.Core.Path.{_≡_, refl, ap, sym, _∙_}
-use mathlib.Core.Bool.{true, false, true≢false, false≢true}
+use mathlib.Core.Bool.{true, true≢false, false≢true}
 use mathlib.Core.List.{List}
 use mathlib.Core.Logic.{inl, inr}
-use Prim.Native.Nat.{ℕ, _+_, _-_, _<_}
+use Prim.Native.Nat.{ℕ}
 use native.Mathlib.Omega.{arith}
 use borrow.Author.Tests.{leb-true, leb-false}
 use lib.Dec.{leb}
 use lib.ListN.{length}
 use Rattle.laws.proofs.Cases.{by-test}
 use Rattle.framing.specs.declared.frame_reader.FrameReader.{FrameReader}
-use Rattle.negotiation.specs.Pap.{fitsCredentials}
+use Rattle.negotiation.specs.Credentials.{fitsCredentials}
 use Rattle.phases.specs.Phases.{isDead, openOf, newOf}
 use Rattle.phases.specs.declared.ppp.Phase.{Phase}
 use Rattle.phases.specs.declared.ppp.Phase.the-variants.{Dead, Establish, Auth, Network, Open}
 use Rattle.phases.specs.declared.ppp.Ppp.{Ppp}
 use Rattle.phases.specs.declared.ppp.Status.{Status}
-use Rattle.negotiation.proofs.Paps.{fits-sum}
+use Rattle.negotiation.proofs.CredentialLaws.{fits-sum, unfit-sum}
 use Rattle.framing.specs.Refusal as framing
 use Rattle.framing.specs.declared.refusal.Outcome as framed
 use Rattle.options.specs.Refusal as negotiated
@@ -33,17 +33,13 @@ use Rattle.refusals.proofs.FramingCalls.{lays-right, consume-right}
 
 -- ---- new
 
-fits-not : (n m : ℕ) → fitsCredentials n m ≡ false → 120 < n + m
-fits-not n m e =
-    by-test (leb n 120) (λ t. omega (arith, leb-true n 120 t, leb-false m (120 - n) (rw t at e))) (λ t. omega (arith, leb-false n 120 t))
-
 -- of the link, or of the record below it: what newOf comes to
 pub new-first : {A : Type 0} (name password : List ℕ) (empty : A) {n : ℕ} {a : A} → n ≡ negotiated.outcomeNumber (newOf name password .outcome)
     → (newOf name password .ppp ≡ emptyPpp → a ≡ empty) → First n a (newRows name password empty)
 new-first name password empty number same =
     by-test (fitsCredentials (length name) (length password))
     (λ e. inr ((λ h. omega (arith, fits-sum (length name) (length password) e)), number ∙ rw e refl))
-    (λ e. inl (number ∙ rw e refl, fits-not (length name) (length password) e, same (rw e refl)))
+    (λ e. inl (number ∙ rw e refl, unfit-sum (length name) (length password) e, same (rw e refl)))
 
 -- ---- open
 

@@ -17,9 +17,10 @@ use Rattle.options.specs.Proto.{startOf, nacksOf}
 use Rattle.options.specs.Reply.{freshReply, replyOf}
 use Rattle.negotiation.specs.Automaton.{isClosed, isOpened, ackResends, Reaction, unless, requested, ackOf, repliedOf, reqWith, reqOf, nackWith, nackOf, termAckOf, ignoreOf, echoOf, actOf, handleOf, protocolRejectOf}
 use Rattle.negotiation.specs.Pap.{isPapSent, PapTurn, papRequested, papActOf, papHandleOf}
+use Rattle.negotiation.specs.Auth.{authHandleOf}
 use Rattle.phases.specs.Phases.{lcpIn, ipv4cpIn, PppTurn, rejectOf, receivedOf}
 use Rattle.negotiation.specs.declared.option_fsm.OptionFsm.{OptionFsm}
-use Rattle.negotiation.specs.declared.pap.Pap.{Pap}
+use Rattle.negotiation.specs.declared.auth.Auth.{Auth}
 use Rattle.phases.specs.declared.ppp.Ppp.{Ppp}
 use Rattle.options.specs.declared.refusal.Outcome.{Outcome}
 use Rattle.options.specs.declared.refusal.Outcome.the-variants.{Done, Refused}
@@ -122,15 +123,15 @@ module _ (f : OptionFsm) where
 -- ---- PAP
 
 -- refused past the packet, and nowhere else
-abbrev pub PapBy : Pap → List ℕ → Type 0
-PapBy p pkt =
-    (PapPast pkt × (papHandleOf p pkt ≡ record { outcome = Refused LengthPast; pap = p; sent = [] }))
-    ⊎ ((PapPast pkt → ⊥) × (papHandleOf p pkt .outcome ≡ Done))
+abbrev pub PapBy : Auth → List ℕ → Type 0
+PapBy a pkt =
+    (PapPast pkt × (authHandleOf a pkt ≡ record { outcome = Refused LengthPast; auth = a; sent = [] }))
+    ⊎ ((PapPast pkt → ⊥) × (authHandleOf a pkt .outcome ≡ Done))
 
-pub pap-by : (p : Pap) (pkt : List ℕ) → PapBy p pkt
-unfolding papHandleOf papActOf papRequested
-pap-by p pkt =
-    let s = isPapSent (p .state) in
+pub pap-by : (a : Auth) (pkt : List ℕ) → PapBy a pkt
+unfolding authHandleOf papHandleOf papActOf papRequested
+pap-by a pkt =
+    let s = isPapSent (a .pap .state) in
     let c = codeAt pkt in
     let P : PapTurn → Type 0 = λ t. t .outcome ≡ Done in
     by-le 6 (length pkt)
@@ -180,9 +181,9 @@ module _ (p : Ppp) (pkt : List ℕ) where
   unfolding receivedOf
   pap-refused e h =
       let two : 2 ≤ length pkt = omega (arith, h .header) in
-      rw (le-ltb _ _ two, e) (go (pap-by (p .pap) pkt))
+      rw (le-ltb _ _ two, e) (go (pap-by (p .auth) pkt))
     where
-      go : PapBy (p .pap) pkt → outcomeNumber (papHandleOf (p .pap) pkt .outcome) ≡ 6
+      go : PapBy (p .auth) pkt → outcomeNumber (authHandleOf (p .auth) pkt .outcome) ≡ 6
       go (inl x) = rw (x .1) refl
       go (inr x) = absurd (x .0 h)
 
@@ -306,10 +307,10 @@ module _ (p : Ppp) (pkt : List ℕ) (w : Which) where
       (λ l. act-cause (λ c z. record { protocol = e; header = ltb-false _ _ h; whole = ltb-false _ _ l; code = z })))
 
 module _ (p : Ppp) (pkt : List ℕ) where
-  pap-cause : protocolAt pkt ≡ 0xC023 → Cause p pkt (outcomeNumber (papHandleOf (p .pap) pkt .outcome))
-  pap-cause e = go (pap-by (p .pap) pkt)
+  pap-cause : protocolAt pkt ≡ 0xC023 → Cause p pkt (outcomeNumber (authHandleOf (p .auth) pkt .outcome))
+  pap-cause e = go (pap-by (p .auth) pkt)
     where
-      go : PapBy (p .pap) pkt → Cause p pkt (outcomeNumber (papHandleOf (p .pap) pkt .outcome))
+      go : PapBy (p .auth) pkt → Cause p pkt (outcomeNumber (authHandleOf (p .auth) pkt .outcome))
       go (inl x) = rw (x .1) (lengthShort (LengthShort.pap e (x .0)))
       go (inr x) = rw (x .1) fine
 

@@ -10,7 +10,7 @@ use lib.ListN.{length, take, drop, getD}
 use Rattle.laws.specs.Be.{beOf}
 use Rattle.laws.specs.Same.{same}
 use Rattle.negotiation.specs.declared.option_fsm.OptionFsm.{OptionFsm}
-use Rattle.negotiation.specs.declared.pap.Pap.{Pap}
+use Rattle.negotiation.specs.declared.auth.Auth.{Auth}
 use Rattle.negotiation.specs.declared.states.State.{State}
 use Rattle.negotiation.specs.declared.states.State.the-variants.{Closed, Opened}
 use Rattle.phases.specs.declared.ppp.Ppp.{Ppp}
@@ -167,6 +167,6 @@ turnRows p pkt = packetRows (λ c. c) (Unchanged p) p pkt
 abbrev pub rejectRows : OptionFsm → List ℕ → List (Row (Answered OptionFsm))
 rejectRows f pkt = row 10 (128 < length pkt + 6) (Unchanged f) ∷ []
 
--- `Pap::handle`, which answers no echo
-abbrev pub papRows : Pap → List ℕ → List (Row (Answered Pap))
-papRows p pkt = row 6 (PapPast pkt) (Unchanged p) ∷ []
+-- `Auth::handle_pap`, which answers no echo
+abbrev pub papRows : Auth → List ℕ → List (Row (Answered Auth))
+papRows a pkt = row 6 (PapPast pkt) (Unchanged a) ∷ []

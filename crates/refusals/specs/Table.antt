@@ -28,7 +28,7 @@ emptyPpp =
       phase = Dead;
       opening = false;
       lcp = record { id = 1; state = Closed; proto = record { auth = None; «asyncmap_remote» = 0xFFFFFFFF; asyncmap = 0; «asyncmap_rej» = false } };
-      pap = record { state = papState.Closed; id = 1; «username_len» = 0; «password_len» = 0; bytes = replicate 120 0 };
+      auth = record { credentials = record { «username_len» = 0; «password_len» = 0; bytes = replicate 120 0 }; pap = record { state = papState.Closed; id = 1 } };
       ipv4cp =
           record {
             id = 1;

@@ -111,11 +111,12 @@ fn negotiated(out: &mut [u8], at: usize, p: Ppp) -> usize {
 // The phase before what is negotiated, and PAP's state behind it.
 fn whole(out: &mut [u8], at: usize, p: Ppp) -> usize {
     let f = p.phase;
-    let a = p.pap;
-    let s = a.state;
+    let a = p.auth;
+    let q = a.pap;
+    let s = q.state;
     let at = phase(out, at, f, p.opening);
     let at = negotiated(out, at, p);
-    pap(out, at, s, a.id)
+    pap(out, at, s, q.id)
 }
 
 pub(crate) fn dump(out: &mut [u8], at: usize, link: PPPoS) -> usize {

@@ -11,8 +11,9 @@ use Rattle.framing.specs.declared.frame_reader.Reading.the-variants.{Crate, Sta
 use Rattle.options.specs.Refusal.{numberOf, valuesOf}
 use Rattle.options.specs.declared.refusal.Outcome.{Outcome}
 use Rattle.options.specs.declared.refusal.Outcome.the-variants.{Done, Refused}
-use Rattle.negotiation.specs.Pap.{papWith, papBytes}
+use Rattle.negotiation.specs.Pap.{papBytes, freshPap}
 use Rattle.negotiation.specs.Messages.{nextId, requestBytes}
+use Rattle.negotiation.specs.Credentials.{credentialsWith}
 use Rattle.phases.specs.Phases.{freshPpp, ipv4cpIn, pollOf, turnOf, openOf, PppTurn}
 use Rattle.negotiation.specs.declared.states.State as fsm
 use Rattle.phases.specs.declared.ppp.Ppp.{Ppp}
@@ -123,7 +124,7 @@ table =
     ∷ 0x7D ∷ 0x20 ∷ 0x7D ∷ 0x20 ∷ 0x7D ∷ 0x20 ∷ 0x7D ∷ 0x20 ∷ 0x5F ∷ 0xAD ∷ 0x7E ∷ [])
     ∷ row (actionNumber (firstPoll 28 .action) ∷ []) (1 ∷ [])
     -- K8: PAP, "a" and "b"
-    ∷ row (papBytes (papWith (0x61 ∷ []) (0x62 ∷ []))) (0xC0 ∷ 0x23 ∷ 0x01 ∷ 0x02 ∷ 0x00 ∷ 0x08 ∷ 0x01 ∷ 0x61 ∷ 0x01 ∷ 0x62 ∷ [])
+    ∷ row (papBytes (credentialsWith (0x61 ∷ []) (0x62 ∷ [])) freshPap) (0xC0 ∷ 0x23 ∷ 0x01 ∷ 0x02 ∷ 0x00 ∷ 0x08 ∷ 0x01 ∷ 0x61 ∷ 0x01 ∷ 0x62 ∷ [])
     -- K9: the first IPv4CP packet
     ∷ row (requestBytes (ipv4cpIn (freshPpp [] [] .ipv4cp) .proto) (nextId (freshPpp [] [] .ipv4cp .id)))
     (0x80 ∷ 0x21 ∷ 0x01 ∷ 0x02 ∷ 0x00 ∷ 0x16 ∷ 0x03 ∷ 0x06 ∷ 0x00 ∷ 0x00 ∷ 0x00 ∷ 0x00 ∷ 0x81 ∷ 0x06 ∷ 0x00 ∷ 0x00 ∷ 0x00 ∷ 0x00 ∷ 0x83 ∷ 0x06 ∷ 0x00 ∷ 0x00 ∷ 0x00 ∷ 0x00 ∷ [])

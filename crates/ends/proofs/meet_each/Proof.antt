@@ -26,7 +26,7 @@ shared-slice-read-c : tie.Need-shared-slice-read-c Inv-loop μ-loop
 shared-slice-read-c c = search needs
 
 add-i : tie.Need-add-i Inv-loop μ-loop
-add-i c = search needs
+add-i c = omega (arith, c .before .loop-test .taken, c .before .before .before .before .before .before .before .before .before .before .good .0)
 
 meet-requires : tie.Need-meet-requires Inv-loop μ-loop
 meet-requires c κs = tt

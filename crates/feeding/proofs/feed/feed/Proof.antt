@@ -56,7 +56,7 @@ loop-less c =
     let src = c .before .before .before .before .before .before .before .before .before .before .before .before .before .before .before .before .args .src .now in
     let t = c .before .before .before .before .before .before .turn in
     let w = within src (l .at) (omega arith) (t .ensures) in
-    rw (c .idle-after .ensures) (fewer (length src) (l .at) (l .idle) (t .result .count) (omega arith) w (omega arith))
+    rw (c .idle-after .ensures) (fewer (length src) (l .at) (l .idle) (t .result .count) (c .before .before .before .before .before .before .before .before .before .before .before .loop-test .taken) w (omega arith))
 
 loop-again : tie.Need-loop-again Inv-loop μ-loop
 loop-again c =
@@ -69,7 +69,7 @@ loop-again c =
       rw e (idle-most (l .idle) (t .result .count) (omega arith)),
       omega arith,
       omega arith,
-      rw e (again src (l .at) (omega arith) (omega arith) (l .inv .4) (t .ensures)),
+      rw e (again src (l .at) (c .before .before .before .before .before .before .before .before .before .before .before .loop-test .taken) (omega arith) (l .inv .4) (t .ensures)),
     )
 
 same-length-3 : tie.Need-same-length-3 Inv-loop μ-loop

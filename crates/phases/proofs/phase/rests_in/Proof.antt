@@ -14,9 +14,6 @@ establish-rests-requires c κs = search needs
 enum-told-3 : tie.Need-enum-told-3
 enum-told-3 c = search needs
 
-is-pap-opened-requires : tie.Need-is-pap-opened-requires
-is-pap-opened-requires c κs = search needs
-
 is-closed-requires : tie.Need-is-closed-requires
 is-closed-requires c κs = search needs
 
@@ -55,7 +52,6 @@ rests-in-spec =
     enum-told-2
     establish-rests-requires
     enum-told-3
-    is-pap-opened-requires
     is-closed-requires
     enum-told-4
     is-opened-requires

@@ -17,7 +17,7 @@ ignore-requires : tie.Need-ignore-requires
 ignore-requires c κs = search needs
 
 returns : tie.Need-returns
-returns c = c .ignore .ensures ∙ ap papHandled (sym (act-idle _ _ (sym (c .before .before .is-sent .ensures) ∙ not-true _ (c .before .if1 .taken))))
+returns c = c .ignore .ensures ∙ ap papHandled (sym (act-idle _ _ _ (sym (c .before .before .is-sent .ensures) ∙ not-true _ (c .before .if1 .taken))))
 
 with-state-requires : tie.Need-with-state-requires
 with-state-requires c κs = search needs
@@ -26,19 +26,19 @@ ignore-requires-2 : tie.Need-ignore-requires-2
 ignore-requires-2 c κs = search needs
 
 returns-2 : tie.Need-returns-2
-returns-2 c = rw (c .before .with-state .ensures) at (c .ignore2 .ensures) ∙ ap papHandled (sym (act-ack _ _ (sent (c .before .before .before)) (c .before .before .if2 .taken)))
+returns-2 c = rw (c .before .with-state .ensures) at (c .ignore2 .ensures) ∙ ap papHandled (sym (act-ack _ _ _ (sent (c .before .before .before)) (c .before .before .if2 .taken)))
 
 send-configure-request-requires : tie.Need-send-configure-request-requires
 send-configure-request-requires c κs = search needs
 
 returns-3 : tie.Need-returns-3
-returns-3 c = c .send-configure-request .ensures ∙ ap papHandled (sym (act-nack _ _ (sent (c .before .before .before)) (c .before .if3 .taken)))
+returns-3 c = c .send-configure-request .ensures ∙ ap papHandled (sym (act-nack _ _ _ (sent (c .before .before .before)) (c .before .if3 .taken)))
 
 ignore-requires-3 : tie.Need-ignore-requires-3
 ignore-requires-3 c κs = search needs
 
 returns-4 : tie.Need-returns-4
-returns-4 c = c .ignore3 .ensures ∙ ap papHandled (sym (act-other _ _ (sent (c .before .before .before)) (c .before .before .if2 .left) (c .before .if3 .left)))
+returns-4 c = c .ignore3 .ensures ∙ ap papHandled (sym (act-other _ _ _ (sent (c .before .before .before)) (c .before .before .if2 .left) (c .before .if3 .left)))
 
 pub act-spec : {M : Type 1} → statement M
 act-spec =

@@ -19,7 +19,7 @@ add-requires c κs = search needs
 
 returns : tie.Need-returns
 unfolding papRequested
-returns c = rw (c .before .before .before .stepped .ensures, one-reply (papBytes (c .before .before .before .before .args .self)) (c .before .before .none .ensures .0) (c .before .request-packet .ensures) (c .add .ensures)) refl
+returns c = rw (c .before .before .before .stepped .ensures, one-reply (papBytes (c .before .before .before .before .args .c) (c .before .before .before .before .args .self)) (c .before .before .none .ensures .0) (c .before .request-packet .ensures) (c .add .ensures)) refl
 
 pub send-configure-request-spec : {M : Type 1} → statement M
 send-configure-request-spec =

@@ -1,19 +1,19 @@
 use mathlib.Core.Path.{_≡_, sym, _∙_}
 use mathlib.Core.Bool.{true, false}
 use borrow.Author.Needs.{needs}
-use Rattle.negotiation.specs.Pap.{isPapOpened}
+use Rattle.negotiation.specs.Auth.{isAuthOpened}
 use Rattle.phases.specs.Phases.{authOf}
 use Rattle.phases.proofs.ppp.Ppp.authenticate.Statement.{statement}
 use Rattle.phases.proofs.ppp.Ppp.authenticate.Tie as tie
 
-up : (c : tie.Then1) → isPapOpened (c .before .before .before .args .self .pap .state) ≡ true
-up c = sym (c .before .is-pap-opened .ensures) ∙ c .if1 .taken
+up : (c : tie.Then1) → isAuthOpened (c .before .before .before .args .self .auth) ≡ true
+up c = sym (c .before .opened .ensures) ∙ c .if1 .taken
 
-down : (c : tie.Else1) → isPapOpened (c .before .before .before .args .self .pap .state) ≡ false
-down c = sym (c .before .is-pap-opened .ensures) ∙ c .if1 .left
+down : (c : tie.Else1) → isAuthOpened (c .before .before .before .args .self .auth) ≡ false
+down c = sym (c .before .opened .ensures) ∙ c .if1 .left
 
-is-pap-opened-requires : tie.Need-is-pap-opened-requires
-is-pap-opened-requires c κs = search needs
+opened-requires : tie.Need-opened-requires
+opened-requires c κs = search needs
 
 open-ipv4cp-requires : tie.Need-open-ipv4cp-requires
 open-ipv4cp-requires c κs = search needs
@@ -36,7 +36,7 @@ pub authenticate-spec : {M : Type 1} → statement M
 authenticate-spec =
     tie.close
     (tie.spec
-    is-pap-opened-requires
+    opened-requires
     open-ipv4cp-requires
     returns
     close-ipv4cp-requires

@@ -29,15 +29,15 @@ is-closed-requires c κs = search needs
 open-lcp-requires : tie.Need-open-lcp-requires
 open-lcp-requires c κs = search needs
 
-close-pap-requires : tie.Need-close-pap-requires
-close-pap-requires c κs = search needs
+close-auth-requires : tie.Need-close-auth-requires
+close-auth-requires c κs = search needs
 
 close-ipv4cp-requires : tie.Need-close-ipv4cp-requires
 close-ipv4cp-requires c κs = search needs
 
 returns : tie.Need-returns
 unfolding establishOf
-returns c = rw (closed (c .before .before .before .before .before), c .close-ipv4cp .ensures, c .before .close-pap .ensures, c .before .before .before .before .open-lcp .ensures) refl
+returns c = rw (closed (c .before .before .before .before .before), c .close-ipv4cp .ensures, c .before .close-auth .ensures, c .before .before .before .before .open-lcp .ensures) refl
 
 is-opened-requires : tie.Need-is-opened-requires
 is-opened-requires c κs = search needs
@@ -51,8 +51,8 @@ open-ipv4cp-requires c κs = search needs
 enum-told-2 : tie.Need-enum-told-2
 enum-told-2 c = search needs
 
-open-pap-requires : tie.Need-open-pap-requires
-open-pap-requires c κs = search needs
+open-auth-requires : tie.Need-open-auth-requires
+open-auth-requires c κs = search needs
 
 returns-2 : tie.Need-returns-2
 unfolding establishOf
@@ -64,10 +64,10 @@ returns-3 : tie.Need-returns-3
 unfolding establishOf
 returns-3 c =
     let i = c .before .before .before .before in
-    rw (shut (i .before .before), up i) (c .open-pap .ensures ∙ by-auth _ (c .before .enum-told2 .given .1))
+    rw (shut (i .before .before), up i) (c .open-auth .ensures ∙ by-auth _ (c .before .enum-told2 .given .1))
 
-close-pap-requires-2 : tie.Need-close-pap-requires-2
-close-pap-requires-2 c κs = search needs
+close-auth-requires-2 : tie.Need-close-auth-requires-2
+close-auth-requires-2 c κs = search needs
 
 close-ipv4cp-requires-2 : tie.Need-close-ipv4cp-requires-2
 close-ipv4cp-requires-2 c κs = search needs
@@ -79,7 +79,7 @@ returns-4 : tie.Need-returns-4
 unfolding establishOf
 returns-4 c =
     let i = c .before .before .before in
-    rw (shut (i .before .before), down i) (rw (c .before .close-ipv4cp2 .ensures, c .before .before .close-pap2 .ensures) at (c .still .ensures))
+    rw (shut (i .before .before), down i) (rw (c .before .close-ipv4cp2 .ensures, c .before .before .close-auth2 .ensures) at (c .still .ensures))
 
 pub establish-spec : {M : Type 1} → statement M
 establish-spec =
@@ -87,17 +87,17 @@ establish-spec =
     (tie.spec
     is-closed-requires
     open-lcp-requires
-    close-pap-requires
+    close-auth-requires
     close-ipv4cp-requires
     returns
     is-opened-requires
     enum-told
     open-ipv4cp-requires
     enum-told-2
-    open-pap-requires
+    open-auth-requires
     returns-2
     returns-3
-    close-pap-requires-2
+    close-auth-requires-2
     close-ipv4cp-requires-2
     still-requires
     returns-4)

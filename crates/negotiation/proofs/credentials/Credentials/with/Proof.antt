@@ -1,8 +1,8 @@
 use mathlib.Core.Path.{refl}
 use borrow.Author.Needs.{needs}
-use Rattle.negotiation.proofs.Paps.{placed}
-use Rattle.negotiation.proofs.pap.Pap.with.Statement.{statement}
-use Rattle.negotiation.proofs.pap.Pap.with.Tie as tie
+use Rattle.negotiation.proofs.CredentialLaws.{placed}
+use Rattle.negotiation.proofs.credentials.Credentials.with.Statement.{statement}
+use Rattle.negotiation.proofs.credentials.Credentials.with.Tie as tie
 
 place-requires : tie.Need-place-requires
 place-requires c κs = search needs

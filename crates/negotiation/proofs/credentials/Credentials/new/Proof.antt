@@ -2,10 +2,10 @@ use mathlib.Core.Path.{_≡_, sym, _∙_}
 use mathlib.Core.Bool.{true, false}
 use borrow.Author.Needs.{needs}
 use lib.ListN.{length}
-use Rattle.negotiation.specs.Pap.{fitsCredentials}
-use Rattle.negotiation.proofs.Paps.{fits-sum}
-use Rattle.negotiation.proofs.pap.Pap.new.Statement.{statement}
-use Rattle.negotiation.proofs.pap.Pap.new.Tie as tie
+use Rattle.negotiation.specs.Credentials.{fitsCredentials}
+use Rattle.negotiation.proofs.CredentialLaws.{fits-sum}
+use Rattle.negotiation.proofs.credentials.Credentials.new.Statement.{statement}
+use Rattle.negotiation.proofs.credentials.Credentials.new.Tie as tie
 
 fits : (c : tie.Then1) → fitsCredentials (length (c .before .before .before .before .args .username .now)) (length (c .before .before .before .before .args .password .now)) ≡ true
 fits c = sym (c .before .is-within .ensures) ∙ c .if1 .taken

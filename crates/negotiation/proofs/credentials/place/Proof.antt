@@ -5,8 +5,8 @@ use native.Mathlib.Nat.{add-zero}
 use lib.ListN.{length, drop}
 use lib.Seq.{sets, drop-length}
 use Rattle.laws.proofs.Stores.{sets-next}
-use Rattle.negotiation.proofs.pap.place.Statement.{statement}
-use Rattle.negotiation.proofs.pap.place.Tie as tie
+use Rattle.negotiation.proofs.credentials.place.Statement.{statement}
+use Rattle.negotiation.proofs.credentials.place.Tie as tie
 
 abbrev Inv-loop : tie.InvT-loop
 Inv-loop at d out₀ i₀ out i = (i ≤ length d) × (sets out (at + i) (drop i d) ≡ sets out₀ at d)
