@@ -71,13 +71,7 @@ impl End {
     }
 
     pub(crate) fn fresh() -> Self {
-        let c = PPPoS::new(
-            b"",
-            b"",
-            Choices {
-                reading: Reading::Crate,
-            },
-        );
+        let c = PPPoS::new(b"", b"", Choices::plain(Reading::Crate));
         let link = c.link;
         End::new(link)
     }

@@ -3,10 +3,11 @@
 use mathlib.Core.Path.{_≡_, refl, ap, _∙_}
 use mathlib.Core.List.{List}
 use Prim.Native.Nat.{ℕ}
+use Rattle.framing.specs.Reader.{consumed}
 use Rattle.framing.specs.declared.frame_reader.Reading.{Reading}
 use Rattle.framing.proofs.SameReading.{consumed-reading}
-use Rattle.link.specs.Choices.{choicesOf}
-use Rattle.link.specs.Link.{heldBy, Makes, Opens, Consumes, pollLink, Polls}
+use Rattle.link.specs.Choices.{choicesOf, Plain, plainIn}
+use Rattle.link.specs.Link.{linkOf, heldBy, Makes, Opens, Consumes, pollLink, Polls}
 use Rattle.link.specs.Reached.{Reached, by-new, by-open, by-consume, by-poll}
 use Rattle.link.specs.declared.refusal.Outcome.{Outcome}
 use Rattle.link.specs.declared.choices.Choices.{Choices}
@@ -14,11 +15,11 @@ use Rattle.link.specs.declared.pppos.PPPoS.{PPPoS}
 use Rattle.link.specs.declared.pppos.PPPoSAction.{PPPoSAction}
 use Rattle.link.proofs.Leaving.{poll-leaves}
 
-abbrev chosen : Reading → Choices
-chosen k = record { reading = k }
+pub plain-in : (k : Reading) → Plain (plainIn k)
+plain-in k = record {}
 
-consumed-choices : (l : PPPoS) (rx bs : List ℕ) → chosen (Rattle.framing.specs.Reader.consumed (heldBy l rx) bs .now .reader .reading) ≡ choicesOf l
-consumed-choices l rx bs = ap chosen (consumed-reading (heldBy l rx) bs)
+consumed-choices : (l : PPPoS) (rx bs : List ℕ) → choicesOf (linkOf (consumed (heldBy l rx) bs .now .reader) (l .ppp)) ≡ choicesOf l
+consumed-choices l rx bs = ap (λ (k : Reading). record { reading = k }) (consumed-reading (heldBy l rx) bs)
 
 poll-choices : (l : PPPoS) (tx rx : List ℕ) → choicesOf (pollLink l tx rx .link) ≡ choicesOf l
 poll-choices l tx rx = poll-leaves (λ m. choicesOf m ≡ choicesOf l) l tx rx refl refl (λ _. refl) refl

@@ -58,11 +58,11 @@ fn replies_len(rs: Replies) -> usize
     let count = rs.count;
     let ps = rs.packets;
     let mut n: usize = 0;
-    let mut i = 0;
-    while i < count {
-        let p = ps[i];
+    let mut k = 0;
+    while k < count {
+        let p = ps[k];
         n += reply_len(p);
-        i += 1;
+        k += 1;
     }
     n
 }
@@ -86,11 +86,11 @@ pub(crate) fn put_replies(tx: &mut [u8], rs: Replies) -> usize
     let count = rs.count;
     let ps = rs.packets;
     let mut at = 0;
-    let mut i = 0;
-    while i < count {
-        let p = ps[i];
+    let mut k = 0;
+    while k < count {
+        let p = ps[k];
         at = put_reply(tx, at, p);
-        i += 1;
+        k += 1;
     }
     at
 }

@@ -35,13 +35,7 @@ fn refusal(o: Outcome) -> usize {
 }
 
 pub(crate) fn fresh() -> PPPoS {
-    let c = PPPoS::new(
-        b"",
-        b"",
-        Choices {
-            reading: Reading::Crate,
-        },
-    );
+    let c = PPPoS::new(b"", b"", Choices::plain(Reading::Crate));
     c.link
 }
 
@@ -53,13 +47,7 @@ fn verdict(o: Outcome, at: usize, out: &mut [u8]) {
 fn made(c: Call, line: &[u8], out: &mut [u8]) -> PPPoS {
     let name = given(line, c.a_at, c.a);
     let pass = given(line, c.b_at, c.b);
-    let r = PPPoS::new(
-        name,
-        pass,
-        Choices {
-            reading: reading(c.c),
-        },
-    );
+    let r = PPPoS::new(name, pass, Choices::plain(reading(c.c)));
     let o = r.outcome;
     verdict(o, c.at, out);
     r.link

@@ -10,10 +10,7 @@ use status_lines::status::text;
 fn played(bytes: &[u8]) -> Status {
     let mut tx = [0u8; 795];
     let mut rx = [0u8; 1600];
-    let choices = Choices {
-        reading: Reading::Crate,
-    };
-    let p = start(choices, &mut tx, &mut rx);
+    let p = start(Choices::plain(Reading::Crate), &mut tx, &mut rx);
     let link = p.link;
     let f = feed(link, &mut tx, &mut rx, bytes);
     let link = f.link;

@@ -44,10 +44,7 @@ fn take_all(link: PPPoS, tx: &mut [u8], rx: &mut [u8]) -> PPPoS {
 fn main() {
     let mut tx = [0u8; 795];
     let mut rx = [0u8; 1600];
-    let choices = Choices {
-        reading: Reading::Crate,
-    };
-    let p = start(choices, &mut tx, &mut rx);
+    let p = start(Choices::plain(Reading::Crate), &mut tx, &mut rx);
     let link = p.link;
     let l = take_all(link, &mut tx, &mut rx);
     let mut out = [0u8; 111];

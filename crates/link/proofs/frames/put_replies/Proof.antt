@@ -44,13 +44,13 @@ put-reply-requires c κs =
     let s = c .before .before .before .before .before .before in
     let l = c .before .before .before .loop in
     let d : Packet = record { len = 0; bytes = [] } in
-    let h : l .i < s .args .rs .count = omega arith in
-    let k : l .i < length (s .args .rs .packets) = omega (arith, long s, s .pre .0 .few) in
-    let e = length-next (s .args .rs) (l .i) d h k in
-    (short-at (s .args .rs) (l .i) d h k (s .pre .0), omega (arith, e, s .pre .1, l .inv .1, l .inv .2))
+    let h : l .k < s .args .rs .count = omega arith in
+    let m : l .k < length (s .args .rs .packets) = omega (arith, long s, s .pre .0 .few) in
+    let e = length-next (s .args .rs) (l .k) d h m in
+    (short-at (s .args .rs) (l .k) d h m (s .pre .0), omega (arith, e, s .pre .1, l .inv .1, l .inv .2))
 
-add-i : tie.Need-add-i Inv-loop μ-loop
-add-i c = search needs
+add-k : tie.Need-add-k Inv-loop μ-loop
+add-k c = search needs
 
 loop-less : tie.Need-loop-less Inv-loop μ-loop
 loop-less c = search needs
@@ -61,14 +61,14 @@ loop-again c =
     let l = c .before .before .before .before .before .before .loop in
     let p = c .before .before .put-reply in
     let d : Packet = record { len = 0; bytes = [] } in
-    let h : l .i < s .args .rs .count = omega arith in
-    let k : l .i < length (s .args .rs .packets) = omega (arith, long s, s .pre .0 .few) in
-    let f = frame everyByte (contentOf (getD (s .args .rs .packets) (l .i) d)) in
-    let g = framesFrom (s .args .rs) (l .i + 1) in
-    let e = frames-next (s .args .rs) (l .i) d h k in (
+    let h : l .k < s .args .rs .count = omega arith in
+    let m : l .k < length (s .args .rs .packets) = omega (arith, long s, s .pre .0 .few) in
+    let f = frame everyByte (contentOf (getD (s .args .rs .packets) (l .k) d)) in
+    let g = framesFrom (s .args .rs) (l .k + 1) in
+    let e = frames-next (s .args .rs) (l .k) d h m in (
       omega arith,
       omega (arith, p .kept .0, l .inv .1),
-      omega (arith, length-next (s .args .rs) (l .i) d h k, p .ensures .0, l .inv .2),
+      omega (arith, length-next (s .args .rs) (l .k) d h m, p .ensures .0, l .inv .2),
       rw (p .ensures .1, p .ensures .0) (sets-append f g (l .tx) (l .at) ∙ rw e at (l .inv .3)),
     )
 
@@ -77,7 +77,7 @@ same-length c = search needs
 
 returns : tie.Need-returns Inv-loop μ-loop
 returns c =
-    let e = frames-end (c .before .before .before .before .args .rs) (c .before .loop .i) (omega arith) in
+    let e = frames-end (c .before .before .before .before .args .rs) (c .before .loop .k) (omega arith) in
     (omega (arith, ap length e, c .before .loop .inv .2), rw e at (c .before .loop .inv .3))
 
 pub put-replies-spec : {M : Type 1} → statement M
@@ -90,7 +90,7 @@ put-replies-spec =
     mul-p
     array-copy-out-p
     put-reply-requires
-    add-i
+    add-k
     loop-less
     loop-again
     same-length

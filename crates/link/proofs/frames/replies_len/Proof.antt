@@ -37,13 +37,13 @@ array-copy-out-p c = omega (arith, c .before .before .before .pre .few)
 reply-len-requires : tie.Need-reply-len-requires Inv-loop μ-loop
 reply-len-requires c κs =
     let s = c .before .before .before .before in
-    short-at (s .args .rs) (c .before .before .loop .i) (record { len = 0; bytes = [] }) (omega arith) (omega (arith, long s, s .pre .few)) (s .pre)
+    short-at (s .args .rs) (c .before .before .loop .k) (record { len = 0; bytes = [] }) (omega arith) (omega (arith, long s, s .pre .few)) (s .pre)
 
 add-n : tie.Need-add-n Inv-loop μ-loop
 add-n c = omega (arith, c .before .before .before .before .before .pre .few, c .reply-len .ensures .1)
 
-add-i : tie.Need-add-i Inv-loop μ-loop
-add-i c = search needs
+add-k : tie.Need-add-k Inv-loop μ-loop
+add-k c = search needs
 
 loop-less : tie.Need-loop-less Inv-loop μ-loop
 loop-less c = search needs
@@ -52,13 +52,13 @@ loop-again : tie.Need-loop-again Inv-loop μ-loop
 loop-again c =
     let s = c .before .before .before .before .before in
     let l = c .before .before .before .loop in
-    let h : l .i < s .args .rs .count = omega arith in
-    let e = length-next (s .args .rs) (l .i) (record { len = 0; bytes = [] }) h (omega (arith, long s, s .pre .few)) in
+    let h : l .k < s .args .rs .count = omega arith in
+    let e = length-next (s .args .rs) (l .k) (record { len = 0; bytes = [] }) h (omega (arith, long s, s .pre .few)) in
     (omega arith, omega (arith, c .reply-len .ensures .1), omega (arith, e, c .reply-len .ensures .0, l .inv .2))
 
 returns : tie.Need-returns Inv-loop μ-loop
 returns c =
-    let e = ap length (frames-end (c .before .before .before .args .rs) (c .before .loop .i) (omega arith)) in
+    let e = ap length (frames-end (c .before .before .before .args .rs) (c .before .loop .k) (omega arith)) in
     omega (arith, e, c .before .loop .inv .2)
 
 pub replies-len-spec : {M : Type 1} → statement M
@@ -72,7 +72,7 @@ replies-len-spec =
     array-copy-out-p
     reply-len-requires
     add-n
-    add-i
+    add-k
     loop-less
     loop-again
     returns)
