@@ -4,11 +4,11 @@ use Prim.Native.Nat.{ℕ, suc, zero, _+_, _*_, _/_, _%_, _^_, _<_, _≤_}
 use mathlib.Core.Path.{_≡_, refl, ap, ap₂, sym, _∙_}
 use mathlib.Core.List.{List, [], _∷_}
 use native.Mathlib.Numerals.{add-one}
-use native.Mathlib.Nat.{pow-le-pow-right, zero-add, pow-suc, pow-succ', one-le-pow, add-mul, mul-assoc, add-assoc, mod-eq-of-lt}
+use native.Mathlib.Nat.{pow-le-pow-right, zero-add, pow-suc, pow-succ', one-le-pow, add-mul, mul-assoc, add-assoc, mod-eq-of-lt, div-one}
 use lib.Arith.{mod-mul, digits-lt, digits-div, digits-mod}
 use native.Mathlib.Omega.{arith}
 use lib.Dec.{lit<}
-use lib.ListN.{length, drop, getD}
+use lib.ListN.{length, take, drop, getD}
 use lib.Seq.{drop-cons, drop-length}
 use Rattle.laws.specs.Each.{Bytes}
 use Rattle.laws.specs.Be.{beFrom, beOf, beBytes}
@@ -21,6 +21,22 @@ be-step d v i h = rw (add-one, drop-cons d i 0)
 pub be-end : (d : List ℕ) (v i : ℕ) → length d ≤ i → i ≤ length d → beFrom v (drop i d) ≡ v
 unfolding beFrom
 be-end d v i h k = let e : i ≡ length d = omega arith in rw (e, drop-length)
+
+-- a field of two bytes, read
+pub be-pair : (d : List ℕ) → 2 ≤ length d → beOf (take 2 d) ≡ getD d 0 0 * 256 + getD d 1 0
+unfolding beFrom
+be-pair [] h = absurd (omega arith)
+be-pair (a ∷ []) h = absurd (omega arith)
+be-pair (a ∷ b ∷ d) h = omega arith
+
+-- the bytes of a field of two, and of one of four
+pub be-two : (v : ℕ) → beBytes 2 v ≡ v / 256 % 256 ∷ v % 256 ∷ []
+unfolding beBytes
+be-two v = simp div-one refl
+
+pub be-four : (v : ℕ) → beBytes 4 v ≡ v / 0x1000000 % 256 ∷ v / 0x10000 % 256 ∷ v / 256 % 256 ∷ v % 256 ∷ []
+unfolding beBytes
+be-four v = simp div-one refl
 
 -- a number of i bytes, at most k
 pub be-room : {v i : ℕ} (k : ℕ) → v < 256 ^ i → i ≤ k → v < 256 ^ k

@@ -3,13 +3,12 @@
 use mathlib.Core.Path.{_≡_, refl, sym, ap, _∙_}
 use mathlib.Core.Bool.{Bool, true, false, cond, _&&_}
 use mathlib.Core.List.{List, [], _∷_}
-use Prim.Native.Nat.{ℕ, _+_, _*_, _-_, _≤_, _<_}
+use Prim.Native.Nat.{ℕ, _-_, _≤_, _<_}
 use native.Mathlib.Omega.{arith}
 use borrow.Author.Tests.{leb-true, lt-ltb, le-ltb, le-leb, lt-leb}
 use lib.Dec.{ltb, leb, eqb}
-use lib.ListN.{length, getD, take, drop}
+use lib.ListN.{length, take, drop}
 use lib.Seq.{sets}
-use Rattle.laws.specs.Be.{beFrom}
 use Rattle.laws.proofs.Cases.{apart, by-test, by-le, both, cond-all, cond-ap}
 use Rattle.laws.proofs.Stores.{sets-front}
 use Rattle.framing.specs.Reader.{isComplete, isShort, fetched, packetOf, gotNumber, gotRange, Receives}
@@ -19,7 +18,6 @@ use Rattle.framing.specs.declared.frame_reader.FrameReader.{FrameReader}
 use Rattle.framing.specs.declared.frame_reader.Got.{Got}
 use Rattle.framing.specs.declared.frame_reader.Got.the-variants.{Packet, Refused, Nothing}
 use Rattle.framing.proofs.OneAnswer.{gots-differ}
-use Rattle.options.specs.Wire.{protocolIn}
 use Rattle.phases.specs.Phases.{PppTurn, restsOf, pollOf, turnOf, Turns}
 use Rattle.options.specs.declared.refusal.Refusal as negotiation
 use Rattle.options.specs.declared.refusal.Outcome as negotiated
@@ -89,13 +87,6 @@ pub turns-short : {turn : PppTurn} {o : negotiated.Outcome} {e : Bool} {p : Ppp}
 turns-short {turn} h s few = rw (h .replies) (short-made (turn .sent) (omega (arith, s .few)) (s .short))
 
 -- ---- what is received
-
--- two bytes say the protocol
-pub protocol-two : (pkt : List ℕ) → 2 ≤ length pkt → protocolIn pkt ≡ getD pkt 0 0 * 256 + getD pkt 1 0
-unfolding beFrom
-protocol-two [] h = absurd (omega arith)
-protocol-two (a ∷ []) h = absurd (omega arith)
-protocol-two (a ∷ b ∷ pkt) h = omega arith
 
 module _ (l : PPPoS) (r : FrameReader) (to : ℕ) (tx rx pkt : List ℕ) where
   pub packet-ip : isIp pkt ≡ true → packetPoll l r to tx rx pkt ≡ polled (Received 3 to) (linkOf r (l .ppp)) tx rx

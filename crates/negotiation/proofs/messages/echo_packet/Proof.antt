@@ -1,8 +1,7 @@
 use borrow.Author.Needs.{needs}
-use native.Mathlib.Nat.{div-one}
 use native.Mathlib.Omega.{arith}
 use lib.ListN.{length-take, length-drop}
-use Rattle.laws.specs.Be.{beBytes}
+use Rattle.laws.proofs.Be.{be-two}
 use Rattle.options.proofs.Wires.{pushed-both, pushed-fresh, pushes}
 use Rattle.options.proofs.Walks.{rest}
 use Rattle.negotiation.proofs.messages.echo_packet.Statement.{statement}
@@ -39,14 +38,13 @@ push-all-requires-2 : tie.Need-push-all-requires-2
 push-all-requires-2 c κs = search needs
 
 returns : tie.Need-returns
-unfolding beBytes
 returns c =
     let b = c .before .before in
     let q = b .before .before in
     let h = pushes (b .push-all .ensures) (q .blank .ensures .1) (omega arith) in
     let k = pushes (c .push-all2 .ensures) (h .tidy) (simp (length-take, length-drop) (omega (arith, h .len))) in
     let e = pushed-fresh _ (q .blank .ensures .0) (pushed-both h k) in
-    simp div-one (rw (← q .before .protocol .ensures, ← rest (q .before .before .before .args .p .now) 3) e)
+    simp be-two (rw (← q .before .protocol .ensures, ← rest (q .before .before .before .args .p .now) 3) e)
 
 pub echo-packet-spec : {M : Type 1} → statement M
 echo-packet-spec =

@@ -1,7 +1,6 @@
 use borrow.Author.Needs.{needs}
 use native.Mathlib.Omega.{arith}
-use native.Mathlib.Nat.{div-one}
-use Rattle.laws.specs.Be.{beBytes}
+use Rattle.laws.proofs.Be.{be-two}
 use Rattle.options.proofs.Wires.{pushed-both, pushed-fresh, pushes}
 use Rattle.negotiation.proofs.replies.emit.Statement.{statement}
 use Rattle.negotiation.proofs.replies.emit.Tie as tie
@@ -34,12 +33,11 @@ push-all-requires-2 : tie.Need-push-all-requires-2
 push-all-requires-2 c κs = search needs
 
 returns : tie.Need-returns
-unfolding beBytes
 returns c =
     let b = c .before .before .before .blank in
     let h = pushes (c .before .push-all .ensures) (b .ensures .1) (omega arith) in
     let k = pushes (c .push-all2 .ensures) (h .tidy) (omega (arith, h .len)) in
-    simp div-one (pushed-fresh _ (b .ensures .0) (pushed-both h k))
+    simp be-two (pushed-fresh _ (b .ensures .0) (pushed-both h k))
 
 pub emit-spec : {M : Type 1} → statement M
 emit-spec =

@@ -1,15 +1,15 @@
-use mathlib.Core.Path.{refl}
+use mathlib.Core.Path.{sym}
+use mathlib.Core.List.{[]}
 use native.Mathlib.Omega.{arith}
 use borrow.Author.Needs.{needs}
 use lib.ListN.{drop-of-length-le}
-use Rattle.laws.specs.Be.{beFrom}
+use Rattle.laws.proofs.Be.{be-end}
 use Rattle.options.proofs.Walks.{rest}
 use Rattle.options.proofs.wire.length_in.Statement.{statement}
 use Rattle.options.proofs.wire.length_in.Tie as tie
 
 returns : tie.Need-returns
-unfolding beFrom
-returns c = rw (drop-of-length-le (c .before .before .args .pkt .now) {i = 4} (omega arith)) refl
+returns c = rw (drop-of-length-le (c .before .before .args .pkt .now) {i = 4} (omega arith)) (sym (be-end [] 0 0 (omega arith) (omega arith)))
 
 sub-protocol-in : tie.Need-sub-protocol-in
 sub-protocol-in c = search needs

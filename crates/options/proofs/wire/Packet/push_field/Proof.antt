@@ -1,7 +1,6 @@
 use borrow.Author.Needs.{needs}
-use native.Mathlib.Nat.{div-one}
 use native.Mathlib.Omega.{arith}
-use Rattle.laws.specs.Be.{beBytes}
+use Rattle.laws.proofs.Be.{be-four}
 use Rattle.options.proofs.Wires.{pushed-none, pushes}
 use Rattle.options.proofs.wire.Packet.push_field.Statement.{statement}
 use Rattle.options.proofs.wire.Packet.push_field.Tie as tie
@@ -28,10 +27,9 @@ push-all-requires : tie.Need-push-all-requires
 push-all-requires c κs = search needs
 
 returns-2 : tie.Need-returns-2
-unfolding beBytes
 returns-2 c =
     let h = pushes (c .push-all .ensures) (c .before .before .before .pre .0) (omega arith) in
-    (rw (c .before .before .if1 .left) (record { is = simp div-one (h .is); tidy = h .tidy; len = h .len }), omega (arith, h .len))
+    (rw (c .before .before .if1 .left, be-four) h, omega (arith, h .len))
 
 pub push-field-spec : {M : Type 1} → statement M
 push-field-spec =
