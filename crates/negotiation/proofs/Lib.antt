@@ -7,3 +7,4 @@ pub mod Paps
 pub mod Proper
 pub mod Sends
 pub mod StateTable
+pub mod Steps

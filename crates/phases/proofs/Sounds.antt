@@ -4,45 +4,30 @@ use mathlib.Core.Path.{_≡_, refl, ap, sym, subst, _∙_}
 use mathlib.Core.Bool.{Bool, true, false, not, _&&_, or-false, true≢false, false≢true}
 use mathlib.Core.List.{List, []}
 use mathlib.Core.Logic.{_⊎_, inl, inr}
-use Prim.Native.Nat.{ℕ, _+_}
+use Prim.Native.Nat.{ℕ}
 use lib.Dec.{ltb, eqb}
-use lib.ListN.{length, take, getD}
+use lib.ListN.{length}
 use Rattle.laws.proofs.Cases.{apart, by-test, cond-by, cond-all}
 use Rattle.options.specs.declared.lcp.AuthType.{AuthType}
 use Rattle.options.specs.declared.lcp.AuthType.the-variants as authType
-use Rattle.negotiation.specs.declared.option_fsm.OptionFsm.{OptionFsm}
 use Rattle.negotiation.specs.declared.auth.Auth as authentication
 use Rattle.phases.specs.declared.ppp.LcpFsm.{LcpFsm}
 use Rattle.phases.specs.declared.ppp.Phase.{Phase}
 use Rattle.phases.specs.declared.ppp.Phase.the-variants.{Dead, Establish, Auth, Network, Open}
 use Rattle.phases.specs.declared.ppp.Ppp.{Ppp}
-use Rattle.options.specs.declared.proto.Verdict.{Verdict}
-use Rattle.options.specs.declared.proto.Verdict.the-variants.{Ack, Nack, Rej}
-use Rattle.options.specs.declared.refusal.Outcome.{Outcome}
-use Rattle.options.specs.declared.refusal.Outcome.the-variants.{Done, Refused}
-use Rattle.negotiation.specs.declared.states.State.{State}
-use Rattle.negotiation.specs.declared.states.State.the-variants.{Closed, ReqSent, AckReceived, AckSent, Opened}
+use Rattle.options.specs.declared.refusal.Outcome.the-variants.{Done}
+use Rattle.negotiation.specs.declared.states.State.the-variants.{Closed}
 use Rattle.options.specs.Refusal.{isDone}
-use Rattle.options.specs.Wire.{protocolIn, lengthField}
-use Rattle.negotiation.specs.Automaton.{afterAcked, afterNotAcked, afterReq, afterAck, afterNack, afterTerm, isClosed, isOpened, Reaction, requested, termAckOf, ackOf, reqOf, nackOf, ignoreOf, echoOf, actOf, handleOf, protocolRejectOf, openedFsm}
+use Rattle.options.specs.Wire.{protocolIn}
+use Rattle.negotiation.specs.Automaton.{isClosed, isOpened}
 use Rattle.phases.specs.Phases.{freshWith, withPhase, withOpening, withLcp, lcpIn, ipv4cpIn, PppTurn, rejectOf, receivedOf, Step, stepTo, opensLcp, opensIpv4cp, closesIpv4cp, byAuth, establishOf, authOf, networkOf, diesOf, settled, phaseOf, restsOf, pollOf, turnOf, isDead, pppTurned, openOf, newOf, opensAuth, closesAuth}
 use Rattle.negotiation.specs.Credentials.{fitsCredentials}
 use Rattle.negotiation.specs.Auth.{isAuthClosed, isAuthSent, isAuthOpened}
 use Rattle.negotiation.proofs.Auths as auth
 use Rattle.negotiation.proofs.Auths.{AuthNear}
 use Rattle.phases.specs.Sound.{isEstablish, Sound, Calm}
-use Rattle.negotiation.proofs.Proper.{proper-handle}
-use Rattle.negotiation.proofs.StateTable.{answer, is-closed, req-goes, ack-goes, nack-goes}
+use Rattle.negotiation.proofs.Steps.{Near, closed-shut, stays-closed, handle-near, reject-near, opened-asks}
 use Rattle.phases.proofs.Resting.{rests-still}
-
--- ---- by a test
-
-done-is : (o : Outcome) → isDone o ≡ true → o ≡ Done
-done-is Done e = refl
-done-is (Refused why) e = absurd (false≢true e)
-
-closed-shut : (s : State) → isClosed s ≡ true → isOpened s ≡ false
-closed-shut s e = rw (is-closed s e) refl
 
 -- ---- one phase's clause gives all
 
@@ -113,73 +98,6 @@ sound-open {p} s = cond-by (λ (t : PppTurn). Sound (t .ppp)) (isDead (p .phase)
           past = waits;
         }
 
--- ---- the states that one packet leads to
-
--- where s is not Opened, t is Closed exactly if s is: only a TerminateReq in Opened closes
-abbrev Near : State → State → Type 0
-Near s t = isOpened s ≡ false → isClosed t ≡ isClosed s
-
-module _ (after : State → State) (closed : isClosed (after Closed) ≡ true) (sent : isClosed (after ReqSent) ≡ false)
-    (received : isClosed (after AckReceived) ≡ false) (acked : isClosed (after AckSent) ≡ false) where
-  after-near : (s : State) → Near s (after s)
-  after-near Closed _ = closed
-  after-near ReqSent _ = sent
-  after-near AckReceived _ = received
-  after-near AckSent _ = acked
-  after-near Opened e = absurd (true≢false e)
-
-req-near : (s : State) (v : Verdict) → Near s (afterReq s v)
-req-near s Ack = after-near afterAcked refl refl refl refl s
-req-near s Nack = after-near afterNotAcked refl refl refl refl s
-req-near s Rej = after-near afterNotAcked refl refl refl refl s
-
-module _ (f : OptionFsm) where
-  abbrev NearTurn : Reaction → Type 0
-  NearTurn t = t .outcome ≡ Done → Near (f .state) (t .fsm .state)
-
-  moved-near : (t : Reaction) {to : State} → Near (f .state) to → (t .outcome ≡ Done → t .fsm .state ≡ to) → NearTurn t
-  moved-near t n m d = rw (m d) n
-
-  stays : NearTurn (ignoreOf f)
-  unfolding ignoreOf
-  stays _ _ = refl
-
-  act-near : (c i : ℕ) (p : List ℕ) → NearTurn (actOf f c i p)
-  unfolding actOf echoOf termAckOf
-  act-near c i p =
-      let nack : (rej : Bool) → isClosed (f .state) ≡ false → NearTurn (nackOf f rej p)
-      = λ rej k. moved-near (nackOf f rej p) (after-near afterNack refl refl refl refl (f .state)) (λ d. nack-goes f i p rej k d .state) in
-      cond-all NearTurn (eqb c 9)
-      (cond-all NearTurn (isOpened (f .state))
-      (cond-all NearTurn (ltb (length p) 3) (λ _ _. refl) (cond-all NearTurn (ltb 128 (length p)) (λ _ _. refl) (λ _ _. refl)))
-      stays)
-      (cond-all NearTurn (eqb c 11) stays
-      (cond-by NearTurn (isClosed (f .state)) (λ _ _ _. refl)
-      (λ k. cond-all NearTurn (eqb c 1) (moved-near (reqOf f i p) (req-near (f .state) (answer f p .verdict)) (λ d. req-goes f i p (answer f p .verdict) refl d .state))
-      (cond-all NearTurn (eqb c 2) (moved-near (ackOf f) (after-near afterAck refl refl refl refl (f .state)) (λ d. ack-goes f i p d .state))
-      (cond-all NearTurn (eqb c 3) (nack false k)
-      (cond-all NearTurn (eqb c 4) (nack true k)
-      (cond-all NearTurn (eqb c 5) (λ _. after-near afterTerm refl refl refl refl (f .state)) stays)))))))
-
-  done-near : (pkt : List ℕ) → NearTurn (handleOf f pkt)
-  unfolding handleOf
-  done-near pkt =
-      cond-all NearTurn (ltb (length pkt) 6) stays
-      (cond-all NearTurn (ltb (length pkt) (lengthField pkt + 2)) stays (act-near (getD pkt 2 0) (getD pkt 3 0) (take (lengthField pkt + 2) pkt)))
-
-  -- a refused packet leaves the automaton
-  handle-near : (pkt : List ℕ) → Near (f .state) (handleOf f pkt .fsm .state)
-  handle-near pkt =
-      by-test (isDone (handleOf f pkt .outcome)) (λ e. done-near pkt (done-is (handleOf f pkt .outcome) e))
-      (λ e. rw (proper-handle f pkt .left e .0) (λ _. refl))
-
-  reject-near : (pkt : List ℕ) → Near (f .state) (protocolRejectOf f pkt .fsm .state)
-  unfolding protocolRejectOf
-  reject-near pkt = cond-all (λ (t : Reaction). Near (f .state) (t .fsm .state)) (ltb 122 (length pkt)) (λ _. refl) (λ _. refl)
-
-stays-closed : {s t : State} → s ≡ Closed → Near s t → t ≡ Closed
-stays-closed {s} {t} e n = is-closed t (n (ap isOpened e) ∙ ap isClosed e)
-
 -- ---- what a received packet leaves
 
 record Heard (p q : Ppp) : Type 0 where
@@ -244,15 +162,18 @@ settled-rests p o d own =
 alive : {t : Bool} → false ≡ true → t ≡ true
 alive e = absurd (false≢true e)
 
+-- an IPv4CP that is opened waits for its answer
+asked-waits : (p : Ppp) → isAuthSent (p .auth) ≡ false → Own Network (opensIpv4cp p .ppp)
+asked-waits p a = let e = opened-asks (ipv4cpIn (p .ipv4cp)) in (ap isClosed e, ap isOpened e, a)
+
 auth-rests : (p : Ppp) (a : AuthType) → p .opening ≡ false → p .ipv4cp .state ≡ Closed → isAuthClosed (p .auth) ≡ true → Rests (settled (byAuth a p .ppp))
-unfolding openedFsm requested
-auth-rests p authType.None o i a = settled-rests (opensIpv4cp p .ppp) o alive (λ _. (refl, refl, auth.closed-unsent (p .auth) a))
+auth-rests p authType.None o i a = settled-rests (opensIpv4cp p .ppp) o alive (λ _. asked-waits p (auth.closed-unsent (p .auth) a))
 auth-rests p authType.Pap o i a = settled-rests (opensAuth p .ppp) o alive (λ _. (auth.opens-sent (p .auth), i))
 
 -- a packet, then a phase step; the phase is an argument of its own, to be taken by cases
 module _ (p q : Ppp) (h : Heard p q) where
   step-rests : (f : Phase) → Sound (withPhase p f) → Rests (phaseOf (withPhase q f) .ppp)
-  unfolding phaseOf establishOf authOf networkOf openedFsm requested
+  unfolding phaseOf establishOf authOf networkOf
   step-rests Dead s =
       settled-rests (withPhase q Dead) (h .opening ∙ s .opens) (λ _. h .lcp (closed-shut (p .lcp .state) (s .closed)) ∙ s .closed) (λ _. tt)
   step-rests Establish s =
@@ -260,7 +181,7 @@ module _ (p q : Ppp) (h : Heard p q) where
       let r = withPhase q Establish in
       let shut = by-test (p .opening) (λ o. closed-shut (p .lcp .state) (s .closed ∙ o)) (λ o. s .establish refl o .0) in
       cond-by P (isClosed (q .lcp .state))
-      (λ _. settled-rests (closesIpv4cp (closesAuth (opensLcp r .ppp))) refl alive (λ _. (refl, refl, auth.closes-closed (q .auth))))
+      (λ _. settled-rests (closesIpv4cp (closesAuth (opensLcp r .ppp))) refl alive (λ _. (ap isOpened (opened-asks (lcpIn (q .lcp))), refl, auth.closes-closed (q .auth))))
       (λ c. let o : p .opening ≡ false = s .opens ∙ sym (h .lcp shut) ∙ c in
       let e = s .establish refl o in
       cond-by P (isOpened (q .lcp .state))
@@ -271,7 +192,7 @@ module _ (p q : Ppp) (h : Heard p q) where
       let r = withPhase q Auth in
       let o = h .opening ∙ s .opens in
       cond-by P (isAuthOpened (q .auth))
-      (λ a. settled-rests (opensIpv4cp r .ppp) o alive (λ _. (refl, refl, auth.opened-unsent (q .auth) a)))
+      (λ a. settled-rests (opensIpv4cp r .ppp) o alive (λ _. asked-waits r (auth.opened-unsent (q .auth) a)))
       (λ a. settled-rests (closesIpv4cp r) o alive (λ _. (h .auth .sent (s .auth refl .0) a, refl)))
   step-rests Network s =
       let r = withPhase q Network in
