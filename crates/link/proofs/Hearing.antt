@@ -16,6 +16,7 @@ use Rattle.framing.specs.declared.frame_reader.FrameReader.{FrameReader}
 use Rattle.framing.proofs.Reader.{consumed-fed, fed-left, Alike, alike-refl}
 use Rattle.phases.specs.Phases.{PppTurn, pppTurned, receivedOf, pollOf, turnOf}
 use Rattle.phases.specs.declared.ppp.Ppp.{Ppp}
+use Rattle.phases.proofs.Phasing.{received-ip, turn-ip}
 use Rattle.options.specs.Wire.{protocolIn}
 use Rattle.options.specs.declared.refusal.Outcome as negotiation
 use Rattle.link.specs.Frames.{frames, alwaysEnough}
@@ -30,15 +31,16 @@ pub sent-count : (n : ℕ) → (actionNumber (sent n) ≡ 0) × (transmitted (se
 sent-count n = cond-by (λ (a : PPPoSAction). (actionNumber a ≡ 0) × (transmitted a ≡ n)) (eqb n 0) (λ e. (refl, sym (eqb-true n 0 e))) (λ _. (refl, refl))
 
 -- an IPv4 packet changes nothing in negotiation, and a turn with it would be a phase step alone
-pub ip-received : (p : Ppp) (x : List ℕ) → isIp x ≡ true → receivedOf p x ≡ pppTurned p []
-unfolding receivedOf
-ip-received p x e =
+is-ip : (x : List ℕ) → isIp x ≡ true → (2 ≤ length x) × (protocolIn x ≡ 0x0021)
+is-ip x e =
     let k = both (leb 2 (length x)) (eqb (protocolIn x) 0x0021) e in
-    rw (le-ltb (length x) 2 (leb-true 2 (length x) (k .0)), eqb-true (protocolIn x) 0x0021 (k .1)) refl
+    (leb-true 2 (length x) (k .0), eqb-true (protocolIn x) 0x0021 (k .1))
+
+pub ip-received : (p : Ppp) (x : List ℕ) → isIp x ≡ true → receivedOf p x ≡ pppTurned p []
+ip-received p x e = received-ip p x (is-ip x e .0) (is-ip x e .1)
 
 pub ip-turn : (p : Ppp) (x : List ℕ) → isIp x ≡ true → turnOf p x ≡ pollOf p
-unfolding turnOf
-ip-turn p x e = rw (ip-received p x e) refl
+ip-turn p x e = turn-ip p x (is-ip x e .0) (is-ip x e .1)
 
 -- a consume: framing's run on the kept bytes; what it left stands behind the bytes that are counted
 pub consume-feeds : {l : PPPoS} {rx bs : List ℕ} {o : Outcome} {n : ℕ} {l′ : PPPoS} {rx′ : List ℕ} → Consumes l rx bs o n l′ rx′

@@ -2,9 +2,10 @@
 -- Assumes nothing.
 use mathlib.Core.Path.{_≡_, refl, ap, sym, _∙_}
 use mathlib.Core.Bool.{true}
-use mathlib.Core.List.{List, _++_, append-nil}
-use Prim.Native.Nat.{ℕ}
+use mathlib.Core.List.{List, [], _++_, append-nil}
+use Prim.Native.Nat.{ℕ, _≤_}
 use native.Mathlib.Omega.{arith}
+use borrow.Author.Tests.{le-ltb}
 use lib.Dec.{ltb, eqb}
 use lib.ListN.{length}
 use Rattle.laws.proofs.Cases.{cond-all}
@@ -27,7 +28,7 @@ use Rattle.phases.specs.declared.ppp.Phase.the-variants.{Dead, Establish
 use Rattle.phases.specs.declared.ppp.Ppp.{Ppp}
 use Rattle.phases.specs.declared.ppp.Turned.{Turned}
 use Rattle.phases.specs.declared.phase.Stepped.{Stepped}
-use Rattle.phases.specs.Phases.{lcpIn, ipv4cpIn, PppTurn, Step, pppRefused, rejectOf, receivedOf, byAuth, establishOf, authOf, networkOf, byPhase, phaseOf, restsOf, pollOf, turnOf, turnedAs, steppedAs, Turns}
+use Rattle.phases.specs.Phases.{lcpIn, ipv4cpIn, PppTurn, Step, pppTurned, pppRefused, rejectOf, receivedOf, byAuth, establishOf, authOf, networkOf, byPhase, phaseOf, restsOf, pollOf, turnOf, turnedAs, steppedAs, Turns}
 use Rattle.phases.proofs.Resting.{rests-still}
 
 -- ---- a turn, by its outcome
@@ -47,6 +48,16 @@ module _ (p : Ppp) (pkt : List ℕ) where
       }
   unfolding turnOf
   turn-done e = rw e refl
+
+-- an IPv4 packet changes nothing, and a turn with it is a phase step alone
+module _ (p : Ppp) (pkt : List ℕ) (h : 2 ≤ length pkt) (e : protocolIn pkt ≡ 0x0021) where
+  pub received-ip : receivedOf p pkt ≡ pppTurned p []
+  unfolding receivedOf
+  received-ip = rw (le-ltb (length pkt) 2 h, e) refl
+
+  pub turn-ip : turnOf p pkt ≡ pollOf p
+  unfolding turnOf
+  turn-ip = rw received-ip refl
 
 -- ---- what a call sends
 
