@@ -24,10 +24,10 @@ pub record Progress : Type 0 where
 abbrev pub progressOf : PPPoS → List ℕ → List ℕ → List ℕ → Progress
 progressOf l tx rx bs = record { link = l; tx = tx; rx = rx; left = bs }
 
-abbrev pub polledProgress : Poll → List ℕ → Progress
+abbrev polledProgress : Poll → List ℕ → Progress
 polledProgress p left = record { link = p .link; tx = p .tx; rx = p .rx; left = left }
 
-abbrev pub consumedProgress : Fed → Progress → Progress
+abbrev consumedProgress : Fed → Progress → Progress
 consumedProgress f s = polledProgress (pollLink (linkOf (f .now .reader) (s .link .ppp)) (s .tx) (f .now .buf)) (f .left)
 
 -- one consume, one poll

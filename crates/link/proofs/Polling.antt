@@ -164,7 +164,7 @@ module _ (l : PPPoS) (tx rx : List ℕ) where
 
 -- ---- a transmit buffer that always suffices
 
-abbrev pub NotFull : Poll → Type 0
+abbrev NotFull : Poll → Type 0
 NotFull p = p .action ≡ Declined FramesFull → ⊥
 
 answered-room : (l : PPPoS) (r : FrameReader) (t : PppTurn) (tx rx : List ℕ) → length (frames (t .sent)) ≤ length tx → NotFull (answeredPoll l r t tx rx)

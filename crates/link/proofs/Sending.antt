@@ -14,7 +14,7 @@ use Rattle.framing.specs.Rfc1662.{frame}
 use Rattle.framing.specs.Writer.{holds, Encodes, capped}
 use Rattle.framing.specs.declared.refusal.Outcome.{Outcome}
 use Rattle.framing.proofs.Unstuffing.{frame-narrow}
-use Rattle.options.specs.Wire.{contentOf}
+use Rattle.options.specs.Wire.{maxPacket, contentOf}
 use Rattle.negotiation.specs.Replies.{maxReplies, contents}
 use Rattle.options.specs.declared.wire.Packet.{Packet}
 use Rattle.negotiation.specs.declared.replies.Replies.{Replies}
@@ -49,11 +49,11 @@ rest-framed {m} {p} {q} buf at h e =
 
 -- ---- lengths
 
-pub frame-short : (p : List ℕ) → length p ≤ 128 → length (frame everyByte p) ≤ maxFrame
+pub frame-short : (p : List ℕ) → length p ≤ maxPacket → length (frame everyByte p) ≤ maxFrame
 frame-short p h = omega (arith, frame-narrow everyByte p)
 
 -- a machine word has room for such a length
-pub capped-short : (p : List ℕ) → length p ≤ 128 → capped (length (frame everyByte p)) ≡ length (frame everyByte p)
+pub capped-short : (p : List ℕ) → length p ≤ maxPacket → capped (length (frame everyByte p)) ≡ length (frame everyByte p)
 capped-short p h = rw (lt-ltb (length (frame everyByte p)) (2 ^ 64) (omega (arith, frame-short p h))) refl
 
 pub frames-append : (ps qs : List (List ℕ)) → frames (ps ++ qs) ≡ frames ps ++ frames qs
@@ -61,7 +61,7 @@ unfolding frames
 frames-append [] qs = refl
 frames-append (p ∷ ps) qs = rw (append-assoc, frames-append ps qs) refl
 
-pub frames-narrow : (ps : List (List ℕ)) → Each packet.Short ps → length (frames ps) ≤ maxFrame * length ps
+frames-narrow : (ps : List (List ℕ)) → Each packet.Short ps → length (frames ps) ≤ maxFrame * length ps
 unfolding frames
 frames-narrow [] h = omega arith
 frames-narrow (p ∷ ps) h = omega (arith, length-append (frame everyByte p) (frames ps), frame-short p (h .0), frames-narrow ps (h .1))

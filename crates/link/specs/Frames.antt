@@ -13,7 +13,7 @@ unfoldable pub frames : List (List ℕ) → List ℕ
 frames [] = []
 frames (p ∷ ps) = frame everyByte p ++ frames ps
 
--- the longest frame of a reply: 128 bytes, the check value and 03 all escaped, with two flags and FF
+-- the longest frame of a reply: maxPacket bytes, the check value and 03 all escaped, with two flags and FF
 abbrev pub maxFrame : ℕ
 maxFrame = 265
 

@@ -190,11 +190,11 @@ pub record Sends (l : PPPoS) (pkt tx : List ℕ) (o : Outcome) (n : ℕ) (tx′ 
 -- ---- the IP packet
 
 -- the range does not run backwards or past the end
-abbrev pub isInside : List ℕ → ℕ → ℕ → Bool
+abbrev isInside : List ℕ → ℕ → ℕ → Bool
 isInside rx from to = leb from to && leb to (length rx)
 
 -- the bytes of a range, or none if it runs backwards or past the end
-abbrev pub partOf : List ℕ → ℕ → ℕ → List ℕ
+abbrev partOf : List ℕ → ℕ → ℕ → List ℕ
 partOf rx from to = cond (isInside rx from to) (take (to - from) (drop from rx)) []
 
 -- a part of the lent buffer itself: its bytes, and that it lies there from the range's start on, or at the buffer's start

@@ -5,7 +5,7 @@ ghost use lib.Dec.{leb};
 ghost use lib.ListN.{length};
 ghost use lib.Seq.{sets};
 ghost use Rattle.framing.specs.Rfc1662.{frame};
-ghost use Rattle.options.specs.Wire.{contentOf};
+ghost use Rattle.options.specs.Wire.{maxPacket, contentOf};
 ghost use Rattle.negotiation.specs.Replies.{contents, Short};
 ghost use Rattle.link.specs.Frames.{maxFrame, frames};
 use framing::encode::encode;
@@ -16,10 +16,11 @@ use options::wire::Packet;
 
 const EVERY_BYTE: u32 = 0xFFFF_FFFF;
 
-// A reply of 128 bytes, every one escaped.
+// The longest reply, every byte escaped.
 const MAX_FRAME: usize = 265;
 
-const ALWAYS_ENOUGH: usize = MAX_REPLIES * MAX_FRAME;
+// With so much room a call never lacks any.
+pub const ALWAYS_ENOUGH: usize = MAX_REPLIES * MAX_FRAME;
 
 // The frame of `src` behind the first `at` bytes of `tx`, which has the room: the rest of the buffer is lent on.
 fn put_frame(tx: &mut [u8], at: usize, src: &[u8]) -> usize
@@ -32,7 +33,7 @@ fn put_frame(tx: &mut [u8], at: usize, src: &[u8]) -> usize
 
 // How many bytes the packet's frame takes.
 fn reply_len(p: Packet) -> usize
-    requires { ⌜ p .len ≤ 128 ⌝ }
+    requires { ⌜ p .len ≤ maxPacket ⌝ }
     ensures { λ r. ⌜ (r ≡ length (frame 0xFFFFFFFF (contentOf p))) × (r ≤ maxFrame) ⌝ }
 {
     let n = p.len;
@@ -42,7 +43,7 @@ fn reply_len(p: Packet) -> usize
 
 // The packet's frame behind the first `at` bytes of `tx`, which has the room.
 fn put_reply(tx: &mut [u8], at: usize, p: Packet) -> usize
-    requires { ⌜ (p .len ≤ 128) × (at + length (frame 0xFFFFFFFF (contentOf p)) ≤ length (now tx)) ⌝ }
+    requires { ⌜ (p .len ≤ maxPacket) × (at + length (frame 0xFFFFFFFF (contentOf p)) ≤ length (now tx)) ⌝ }
     ensures { λ r. ⌜ (r ≡ at + length (frame 0xFFFFFFFF (contentOf p))) × (now (tx .exit) ≡ sets (now (tx .entry)) at (frame 0xFFFFFFFF (contentOf p))) ⌝ }
 {
     let n = p.len;

@@ -17,7 +17,7 @@ use Rattle.options.specs.declared.refusal.Refusal.the-variants.{EchoEmpty, Repl
 use Rattle.negotiation.specs.declared.states.State.{State}
 use Rattle.options.specs.declared.wire.Packet.{Packet}
 use Rattle.negotiation.specs.declared.replies.Replies.{Replies}
-use Rattle.options.specs.Wire.{pktOf, lengthField}
+use Rattle.options.specs.Wire.{maxPacket, pktOf, lengthField}
 use Rattle.negotiation.specs.Replies.{repliesOf, added, maxReplies}
 use Rattle.negotiation.specs.Messages.{nextId, requestBytes, replyBytes, termAckBytes, echoBytes}
 use Rattle.negotiation.specs.Automaton.{ackResends, afterAck, afterNack, isOpened, handled, refusalOf, withState, stepped, requested, requestedIn, ackOf, afterReply, reqWith, afterNacked, nackWith, termAckOf, ignoreOf, echoOf, actOf, handleOf}
@@ -96,11 +96,11 @@ module _ (f : OptionFsm) (p : List ℕ) where
   unfolding echoOf
   echo-short k h = rw (k, lt-ltb _ _ h) refl
 
-  pub echo-long : isOpened (f .state) ≡ true → 3 ≤ length p → 128 < length p → refusalOf f ReplyLong ≡ echoOf f p
+  pub echo-long : isOpened (f .state) ≡ true → 3 ≤ length p → maxPacket < length p → refusalOf f ReplyLong ≡ echoOf f p
   unfolding echoOf
   echo-long k h l = rw (k, le-ltb _ _ h, lt-ltb _ _ l) refl
 
-  pub echo-sent : {s : Replies} → isOpened (f .state) ≡ true → 3 ≤ length p → length p ≤ 128 → s ≡ repliesOf (echoBytes (f .proto) p ∷ [])
+  pub echo-sent : {s : Replies} → isOpened (f .state) ≡ true → 3 ≤ length p → length p ≤ maxPacket → s ≡ repliesOf (echoBytes (f .proto) p ∷ [])
       → _≡_ {A = Handled} (record { outcome = Done; echoed = true; fsm = f; replies = s }) (handled (echoOf f p))
   unfolding echoOf
   echo-sent k h l es = rw (es, k, le-ltb _ _ h, le-ltb _ _ l) refl

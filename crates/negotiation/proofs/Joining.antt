@@ -11,7 +11,7 @@ use lib.Seq.{take-at, drop-cons, split-at, getD-take}
 use Rattle.laws.specs.Each.{Each}
 use Rattle.laws.proofs.Each.{each-right}
 use Rattle.laws.proofs.Stores.{seam}
-use Rattle.options.specs.Wire.{pktOf, contentOf}
+use Rattle.options.specs.Wire.{maxPacket, pktOf, contentOf}
 use Rattle.options.specs.declared.wire.Packet.{Packet}
 use Rattle.options.proofs.Wires.{content-pkt, len-pkt}
 use Rattle.options.proofs.Fair as packet
@@ -53,7 +53,7 @@ pub short-made : (ps : List (List ℕ)) → length ps ≤ maxReplies → Each pa
 unfolding repliesOf
 short-made ps few short = record { few = few; each = rw (first-made ps) (each-short ps short) }
   where
-    each-short : (ps : List (List ℕ)) → Each packet.Short ps → Each (λ (p : Packet). p .len ≤ 128) (map pktOf ps)
+    each-short : (ps : List (List ℕ)) → Each packet.Short ps → Each (λ (p : Packet). p .len ≤ maxPacket) (map pktOf ps)
     each-short [] h = tt
     each-short (p ∷ ps) h = (rw (len-pkt p) (h .0), each-short ps (h .1))
 
@@ -71,9 +71,9 @@ module _ (rs : Replies) (i : ℕ) where
     contents-next =
         rw (drop-cons (map contentOf first) i (contentOf d) (omega (arith, within, length-map first contentOf)), List·getD-map contentOf first i d, getD-take (rs .count) (rs .packets) i d h, add-one i) refl
 
-    pub short-at : Short rs → getD (rs .packets) i d .len ≤ 128
+    pub short-at : Short rs → getD (rs .packets) i d .len ≤ maxPacket
     short-at s =
-        let P : Packet → Type 0 = λ p. p .len ≤ 128 in
+        let P : Packet → Type 0 = λ p. p .len ≤ maxPacket in
         rw (getD-take (rs .count) (rs .packets) i d h) at (each-right P (take i first) (getD first i d ∷ drop (suc i) first) (rw (split-at first i d within) at (s .each)) .0)
 
   pub contents-end : rs .count ≤ i → drop i (contents rs) ≡ []
@@ -91,6 +91,6 @@ pub contents-short : {rs : Replies} → Short rs → Each packet.Short (contents
 unfolding contents
 contents-short {rs} s = go (take (rs .count) (rs .packets)) (s .each)
   where
-    go : (qs : List Packet) → Each (λ (p : Packet). p .len ≤ 128) qs → Each packet.Short (map contentOf qs)
+    go : (qs : List Packet) → Each (λ (p : Packet). p .len ≤ maxPacket) qs → Each packet.Short (map contentOf qs)
     go [] h = tt
     go (q ∷ qs) h = (omega (arith, length-take (q .len) (q .bytes), h .0), go qs (h .1))

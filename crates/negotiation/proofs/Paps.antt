@@ -15,7 +15,7 @@ use Rattle.negotiation.specs.Pap.{credentialBytes, papBytes, isPapSent, 
 use Rattle.negotiation.specs.Credentials.{nameOf, passwordOf}
 use Rattle.negotiation.proofs.CredentialLaws.{credentials-short}
 use Rattle.options.specs.declared.wire.Packet.{Packet}
-use Rattle.options.specs.Wire.{pktOf, Pushed, pushedAll}
+use Rattle.options.specs.Wire.{maxPacket, pktOf, Pushed, pushedAll}
 use Rattle.options.proofs.Fair.{length-packet}
 use Rattle.options.proofs.Wires.{tidy-of, len-of, pushes, pushed-both}
 
@@ -24,7 +24,7 @@ use Rattle.options.proofs.Wires.{tidy-of, len-of, pushes, pushed-both}
 -- four pieces one behind the other in a fresh packet
 pub pushed-four : {p q r s t : Packet} (a b c d : List ℕ) → p ≡ pktOf []
     → q ≡ pushedAll p a → r ≡ pushedAll q b → s ≡ pushedAll r c → t ≡ pushedAll s d
-    → length a + length b + length c + length d ≤ 128
+    → length a + length b + length c + length d ≤ maxPacket
     → Pushed p t (a ++ (b ++ (c ++ d))) × (t .len ≡ length a + length b + length c + length d)
 pushed-four a b c d e u v w x h =
     let n = len-of [] e in
@@ -35,7 +35,7 @@ pushed-four a b c d e u v w x h =
     (pushed-both k (pushed-both l (pushed-both m o)), omega (arith, n, k .len, l .len, m .len, o .len))
 
 -- its header, two lengths, and the credentials
-pub pap-short : (c : Credentials) (p : Pap) → length (papBytes c p) ≤ 128
+pub pap-short : (c : Credentials) (p : Pap) → length (papBytes c p) ≤ maxPacket
 pap-short c p =
     let d = credentialBytes (nameOf c) (passwordOf c) in
     let g : length d ≡ length (nameOf c) + length (passwordOf c) + 2 = rw length-append (omega arith) in

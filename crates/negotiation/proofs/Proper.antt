@@ -18,13 +18,13 @@ use Rattle.options.specs.declared.refusal.Outcome.the-variants.{Done, Refused}
 use Rattle.options.specs.declared.refusal.Refusal.{Refusal}
 use Rattle.options.specs.declared.refusal.Refusal.the-variants.{ConfigureShort, EchoEmpty, ReplyLong}
 use Rattle.options.specs.Refusal.{isDone}
-use Rattle.options.specs.Wire.{lengthField}
+use Rattle.options.specs.Wire.{maxPacket, lengthField}
 use Rattle.options.specs.Options.{walkOf}
 use Rattle.options.specs.Proto.{protocolOf}
 use Rattle.options.proofs.Fair.{Short, Fair, fair-answer, nacks-kind}
 use Rattle.negotiation.specs.declared.option_fsm.OptionFsm.{OptionFsm}
 use Rattle.negotiation.specs.declared.states.State.the-variants.{ReqSent}
-use Rattle.negotiation.specs.Messages.{nextId, requestBytes, replyBytes, termAckBytes, echoBytes, rejectBytes}
+use Rattle.negotiation.specs.Messages.{maxRejected, nextId, requestBytes, replyBytes, termAckBytes, echoBytes, rejectBytes}
 use Rattle.negotiation.specs.Automaton.{ackResends, afterAck, afterTerm, isClosed, isOpened, Reaction, reacts, refusalOf, withState, requested, ackOf, afterReply, repliedOf, unless, reqWith, reqOf, afterNacked, nackWith, nackOf, termAckOf, ignoreOf, echoOf, actOf, handleOf, stepped, protocolRejectOf, openedFsm}
 use Rattle.negotiation.proofs.Lengths.{request-length, reply-length, term-ack-length, echo-length, reject-length}
 
@@ -54,7 +54,7 @@ module _ (f : OptionFsm) where
   unfolding requested
   proper-requested g ps e h k =
       let l = requestBytes (g .proto) (nextId (g .id)) in
-      let s : length l ≤ 128 = omega (arith, request-length (g .proto) (nextId (g .id))) in
+      let s : length l ≤ maxPacket = omega (arith, request-length (g .proto) (nextId (g .id))) in
       proper-done _ (ps ++ l ∷ []) e (rw length-append (omega arith)) (each-append Short ps (l ∷ []) k (s, tt))
 
   proper-unless : (o : Outcome) (t : Reaction) → Proper f t → Proper f (unless o f t)
@@ -64,7 +64,7 @@ module _ (f : OptionFsm) where
   proper-req : (i : ℕ) (r : Reply) → Fair (protocolOf (f .proto)) r → Proper f (reqWith f i r)
   unfolding reqWith
   proper-req i r fair =
-      let s : length (replyBytes i r) ≤ 128 = omega (arith, reply-length i r (fair .ready)) in
+      let s : length (replyBytes i r) ≤ maxPacket = omega (arith, reply-length i r (fair .ready)) in
       proper-unless (r .outcome) (repliedOf f i r)
       (cond-all (Proper f) (isOpened (f .state))
       (proper-requested (afterReply f r) (replyBytes i r ∷ []) (fair .kind) (omega arith) (s, tt))
@@ -89,11 +89,11 @@ module _ (f : OptionFsm) where
   proper-echo p =
       cond-all (Proper f) (isOpened (f .state))
       (cond-by (Proper f) (ltb (length p) 3) (λ _. proper-refused EchoEmpty)
-      (λ h. cond-by (Proper f) (ltb 128 (length p)) (λ _. proper-refused ReplyLong) (λ l. record { few = omega arith; short = (long h l, tt); kind = refl; left = λ x. absurd (true≢false x) })))
+      (λ h. cond-by (Proper f) (ltb maxPacket (length p)) (λ _. proper-refused ReplyLong) (λ l. record { few = omega arith; short = (long h l, tt); kind = refl; left = λ x. absurd (true≢false x) })))
       proper-ignored
     where
-      long : ltb (length p) 3 ≡ false → ltb 128 (length p) ≡ false → length (echoBytes (f .proto) p) ≤ 128
-      long h l = omega (arith, echo-length (f .proto) p (ltb-false (length p) 3 h), ltb-false 128 (length p) l)
+      long : ltb (length p) 3 ≡ false → ltb maxPacket (length p) ≡ false → length (echoBytes (f .proto) p) ≤ maxPacket
+      long h l = omega (arith, echo-length (f .proto) p (ltb-false (length p) 3 h), ltb-false maxPacket (length p) l)
 
   proper-act : (c i : ℕ) (p : List ℕ) → Proper f (actOf f c i p)
   unfolding actOf reqOf nackOf
@@ -119,8 +119,8 @@ module _ (f : OptionFsm) where
   pub proper-reject : (p : List ℕ) → Proper f (protocolRejectOf f p)
   unfolding protocolRejectOf
   proper-reject p =
-      cond-by (Proper f) (ltb 122 (length p)) (λ _. proper-refused ReplyLong)
-      (λ e. proper-one (stepped f) (rejectBytes (nextId (f .id)) p) refl (omega (arith, reject-length (nextId (f .id)) p, ltb-false 122 (length p) e)))
+      cond-by (Proper f) (ltb maxRejected (length p)) (λ _. proper-refused ReplyLong)
+      (λ e. proper-one (stepped f) (rejectBytes (nextId (f .id)) p) refl (omega (arith, reject-length (nextId (f .id)) p, ltb-false maxRejected (length p) e)))
 
   pub proper-opened : Proper f (openedFsm f)
   unfolding openedFsm

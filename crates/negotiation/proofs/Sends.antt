@@ -13,14 +13,14 @@ use Rattle.negotiation.specs.declared.option_fsm.OptionFsm.{OptionFsm}
 use Rattle.negotiation.specs.declared.credentials.Credentials.{Credentials}
 use Rattle.negotiation.specs.declared.pap.Pap.{Pap}
 use Rattle.negotiation.specs.declared.pap.PapState.the-variants.{ReqSent}
-use Rattle.options.specs.Wire.{lengthField}
+use Rattle.options.specs.Wire.{maxPacket, lengthField}
 use Rattle.negotiation.specs.Automaton.{handleOf, protocolRejectOf, openedFsm}
 use Rattle.negotiation.specs.Pap.{isPapSent, withPapState, PapTurn, papBytes, papRequested, papActOf, papHandleOf, openedPap}
 use Rattle.options.proofs.Fair.{Short}
 use Rattle.negotiation.proofs.Proper.{proper-handle, proper-reject, proper-opened, opened-one}
 use Rattle.negotiation.proofs.Paps.{pap-short}
 
--- at most n packets, each of at most 128 bytes
+-- at most n packets, each of at most maxPacket bytes
 pub record Sends (n : ℕ) (ps : List (List ℕ)) : Type 0 where
   pub few : length ps ≤ n
   pub short : Each Short ps
@@ -28,7 +28,7 @@ pub record Sends (n : ℕ) (ps : List (List ℕ)) : Type 0 where
 pub sends-none : (n : ℕ) → Sends n []
 sends-none n = record { few = omega arith; short = tt }
 
-sends-one : (n : ℕ) (l : List ℕ) → length l ≤ 128 → Sends (suc n) (l ∷ [])
+sends-one : (n : ℕ) (l : List ℕ) → length l ≤ maxPacket → Sends (suc n) (l ∷ [])
 sends-one n l h = record { few = omega arith; short = (h, tt) }
 
 pub sends-both : {m n : ℕ} (a b : List (List ℕ)) → Sends m a → Sends n b → Sends (m + n) (a ++ b)

@@ -27,14 +27,14 @@ use Rattle.negotiation.specs.Automaton.{afterAcked, afterNotAcked, after
 use Rattle.negotiation.specs.StateTable.{Event, reqAcked, reqNotAcked, ack, nackOrRej, terminate, Transition, row, table}
 use Rattle.negotiation.specs.Messages.{nextId, requestBytes, termAckBytes}
 
-abbrev pub afterOf : Event → State → State
+abbrev afterOf : Event → State → State
 afterOf reqAcked = afterAcked
 afterOf reqNotAcked = afterNotAcked
 afterOf ack = afterAck
 afterOf nackOrRej = afterNack
 afterOf terminate = afterTerm
 
-abbrev pub asksOf : Event → State → Bool
+abbrev asksOf : Event → State → Bool
 asksOf reqAcked s = isOpened s
 asksOf reqNotAcked s = isOpened s
 asksOf ack s = ackResends s
@@ -50,7 +50,7 @@ rowsFor [] = []
 rowsFor (e ∷ es) = rowsOf e ++ rowsFor es
 
 -- each event in each state, once
-pub table-given : table ≡ rowsFor (reqAcked ∷ reqNotAcked ∷ ack ∷ nackOrRej ∷ terminate ∷ [])
+table-given : table ≡ rowsFor (reqAcked ∷ reqNotAcked ∷ ack ∷ nackOrRej ∷ terminate ∷ [])
 table-given = refl
 
 -- the reply to the options of a request
@@ -146,7 +146,7 @@ module _ (f : OptionFsm) (i : ℕ) (p : List ℕ) where
   unfolding termAckOf
   term-goes = reacts-goes (withState f (afterTerm (f .state))) _ refl
 
-  pub leaves-goes : (e : Event) (t : Reaction) → Leaves f i p e t → Goes (afterOf e (f .state)) (asksOf e (f .state)) t
+  leaves-goes : (e : Event) (t : Reaction) → Leaves f i p e t → Goes (afterOf e (f .state)) (asksOf e (f .state)) t
   unfolding actOf
   leaves-goes e t (acked v) = closed-goes reqAcked _ (λ _. req-goes Ack v)
   leaves-goes e t (nacked v) = closed-goes reqNotAcked _ (λ _. req-goes Nack v)

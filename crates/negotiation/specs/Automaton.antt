@@ -4,9 +4,9 @@ use mathlib.Core.List.{List, [], _∷_, _++_}
 use Prim.Native.Nat.{ℕ, _+_}
 use lib.Dec.{ltb, eqb}
 use lib.ListN.{length, take, drop, getD}
-use Rattle.options.specs.Wire.{pktOf, lengthField}
+use Rattle.options.specs.Wire.{maxPacket, pktOf, lengthField}
 use Rattle.negotiation.specs.Replies.{repliesOf, added}
-use Rattle.negotiation.specs.Messages.{nextId, requestBytes, replyBytes, termAckBytes, echoBytes, rejectBytes}
+use Rattle.negotiation.specs.Messages.{maxRejected, nextId, requestBytes, replyBytes, termAckBytes, echoBytes, rejectBytes}
 use Rattle.options.specs.Options.{walkOf}
 use Rattle.options.specs.Proto.{startOf, nacksOf}
 use Rattle.options.specs.Reply.{freshReply, replyOf}
@@ -174,7 +174,7 @@ echoOf f p =
     cond (isOpened (f .state))
     (cond (ltb (length p) 3)
     (refusalOf f EchoEmpty)
-    (cond (ltb 128 (length p))
+    (cond (ltb maxPacket (length p))
     (refusalOf f ReplyLong)
     (record { outcome = Done; echoed = true; fsm = f; sent = echoBytes (f .proto) p ∷ [] })))
     (ignoreOf f)
@@ -203,7 +203,7 @@ handleOf f p =
 
 -- Protocol-Reject steps the id
 unfoldable pub protocolRejectOf : OptionFsm → List ℕ → Reaction
-protocolRejectOf f pkt = cond (ltb 122 (length pkt)) (refusalOf f ReplyLong) (reacts (stepped f) (rejectBytes (nextId (f .id)) pkt ∷ []))
+protocolRejectOf f pkt = cond (ltb maxRejected (length pkt)) (refusalOf f ReplyLong) (reacts (stepped f) (rejectBytes (nextId (f .id)) pkt ∷ []))
 
 -- whatever the state was
 unfoldable pub openedFsm : OptionFsm → Reaction

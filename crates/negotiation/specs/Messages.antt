@@ -1,9 +1,9 @@
 -- The packets that negotiation sends, by protocol and id alone (document 01, 'Negotiation').
 use mathlib.Core.List.{List, [], _∷_, _++_}
-use Prim.Native.Nat.{ℕ, _+_, _%_}
+use Prim.Native.Nat.{ℕ, _+_, _-_, _%_}
 use lib.ListN.{drop}
 use Rattle.laws.specs.Be.{beBytes}
-use Rattle.options.specs.Wire.{contentOf, packetOf}
+use Rattle.options.specs.Wire.{maxPacket, contentOf, packetOf}
 use Rattle.options.specs.Proto.{protocolOf, ownOf}
 use Rattle.options.specs.declared.proto.Proto.{Proto}
 use Rattle.options.specs.declared.proto.Verdict.{Verdict}
@@ -35,6 +35,10 @@ termAckBytes p i = packetOf (protocolOf p) 6 i []
 -- the packet comes back with code 10
 abbrev pub echoBytes : Proto → List ℕ → List ℕ
 echoBytes p pkt = beBytes 2 (protocolOf p) ++ (10 ∷ drop 3 pkt)
+
+-- the longest packet that Protocol-Reject carries back: protocol, code, id and Length stand before it
+abbrev pub maxRejected : ℕ
+maxRejected = maxPacket - 6
 
 -- Protocol-Reject is LCP's and carries the whole packet
 abbrev pub rejectBytes : ℕ → List ℕ → List ℕ

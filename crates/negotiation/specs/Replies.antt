@@ -5,7 +5,7 @@ use Prim.Native.Nat.{ℕ, _+_, _-_, _≤_}
 use lib.Dec.{leb, eqb}
 use lib.ListN.{length, take, set, replicate, getD}
 use Rattle.laws.specs.Each.{Each}
-use Rattle.options.specs.Wire.{pktOf, contentOf}
+use Rattle.options.specs.Wire.{maxPacket, pktOf, contentOf}
 use Rattle.options.specs.declared.wire.Packet.{Packet}
 use Rattle.negotiation.specs.declared.replies.Replies.{Replies}
 
@@ -21,10 +21,10 @@ repliesOf ps = record { count = length ps; packets = map pktOf ps ++ replicate (
 unfoldable pub contents : Replies → List (List ℕ)
 contents rs = map contentOf (take (rs .count) (rs .packets))
 
--- a record within its bounds: no more packets than it has places for, each of at most 128 bytes
+-- a record within its bounds: no more packets than it has places for, each of at most maxPacket bytes
 pub record Short (rs : Replies) : Type 0 where
   pub few : rs .count ≤ maxReplies
-  pub each : Each (λ (p : Packet). p .len ≤ 128) (take (rs .count) (rs .packets))
+  pub each : Each (λ (p : Packet). p .len ≤ maxPacket) (take (rs .count) (rs .packets))
 
 abbrev pub added : Replies → Packet → Replies
 added r p = record { count = r .count + 1; packets = set (r .packets) (r .count) p }

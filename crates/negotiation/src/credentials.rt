@@ -6,7 +6,7 @@ ghost use lib.Seq.{sets};
 ghost use Rattle.negotiation.specs.Credentials.{maxCredentials, fitsCredentials, countedLen, nameOf, passwordOf, credentialsWith, freshCredentials};
 
 // How many bytes the two may have together.
-pub const MAX_CREDENTIALS: usize = 120;
+const MAX_CREDENTIALS: usize = 120;
 
 pub struct Credentials {
     pub username_len: usize,

@@ -2,9 +2,9 @@
 ghost use mathlib.Core.Path.{_≡_};
 ghost use Prim.Native.Nat.{_≤_};
 ghost use lib.ListN.{length};
-ghost use Rattle.options.specs.Wire.{pktOf};
+ghost use Rattle.options.specs.Wire.{maxPacket, pktOf};
 ghost use Rattle.options.specs.Reply.{Ready};
-ghost use Rattle.negotiation.specs.Messages.{nextId, requestBytes, codeOf, replyBytes, termAckBytes, echoBytes, rejectBytes};
+ghost use Rattle.negotiation.specs.Messages.{maxRejected, nextId, requestBytes, codeOf, replyBytes, termAckBytes, echoBytes, rejectBytes};
 use crate::replies::emit;
 use crate::replies::emit_packet;
 use options::proto::Proto;
@@ -18,9 +18,13 @@ use options::wire::CONFIGURE_REJ;
 use options::wire::CONFIGURE_REQ;
 use options::wire::ECHO_REPLY;
 use options::wire::LCP;
+use options::wire::MAX_PACKET;
 use options::wire::PROTOCOL_REJ;
 use options::wire::Packet;
 use options::wire::TERMINATE_ACK;
+
+// The longest packet that Protocol-Reject carries back: protocol, code, id and Length stand before it.
+pub(crate) const MAX_REJECTED: usize = MAX_PACKET - 6;
 
 // 255 goes to 0.
 pub(crate) fn next_id(id: u8) -> u8
@@ -65,7 +69,7 @@ pub(crate) fn terminate_ack_packet(p: Proto, id: u8) -> Packet
 
 // The echo of a packet that has a code.
 pub(crate) fn echo_packet(q: Proto, p: &[u8]) -> Packet
-    requires { ⌜ (3 ≤ length (now p)) × (length (now p) ≤ 128) ⌝ }
+    requires { ⌜ (3 ≤ length (now p)) × (length (now p) ≤ maxPacket) ⌝ }
     ensures { λ r. ⌜ r ≡ pktOf (echoBytes q (now (p .entry))) ⌝ }
 {
     let v = protocol(q);
@@ -75,7 +79,7 @@ pub(crate) fn echo_packet(q: Proto, p: &[u8]) -> Packet
 
 // Protocol-Reject is LCP's, whichever protocol the packet has.
 pub(crate) fn reject_packet(id: u8, pkt: &[u8]) -> Packet
-    requires { ⌜ length (now pkt) ≤ 122 ⌝ }
+    requires { ⌜ length (now pkt) ≤ maxRejected ⌝ }
     ensures { λ q. ⌜ q ≡ pktOf (rejectBytes id (now (pkt .entry))) ⌝ }
 {
     emit(LCP, PROTOCOL_REJ, id, pkt)

@@ -3,6 +3,7 @@ ghost use mathlib.Core.Path.{_≡_};
 ghost use Prim.Native.Nat.{_≤_};
 ghost use Rattle.options.specs.Reply.{Ready};
 ghost use Rattle.negotiation.specs.Automaton.{handled, refusalOf, withState, stepped, requestedIn, ackOf, afterReply, reqWith, reqOf, nackWith, nackOf, termAckOf, ignoreOf, echoOf, actOf, handleOf, protocolRejectOf, openedFsm};
+use crate::messages::MAX_REJECTED;
 use crate::messages::echo_packet;
 use crate::messages::next_id;
 use crate::messages::reject_packet;
@@ -32,6 +33,7 @@ use options::wire::CONFIGURE_REJ;
 use options::wire::CONFIGURE_REQ;
 use options::wire::DISCARD_REQ;
 use options::wire::ECHO_REQ;
+use options::wire::MAX_PACKET;
 use options::wire::TERMINATE_REQ;
 use options::wire::length_in;
 
@@ -134,7 +136,7 @@ impl OptionFsm {
         if p.len() < 3 {
             return self.refuse(Refusal::EchoEmpty);
         }
-        if 128 < p.len() {
+        if MAX_PACKET < p.len() {
             return self.refuse(Refusal::ReplyLong);
         }
         let q = self.proto;
@@ -284,7 +286,7 @@ impl OptionFsm {
     pub fn send_protocol_reject(self, pkt: &[u8]) -> Handled
         ensures { λ h. ⌜ h ≡ handled (protocolRejectOf self (now (pkt .entry))) ⌝ }
     {
-        if 122 < pkt.len() {
+        if MAX_REJECTED < pkt.len() {
             return self.refuse(Refusal::ReplyLong);
         }
         let f = self.with_next_id();

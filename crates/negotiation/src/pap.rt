@@ -30,10 +30,10 @@ pub struct Pap {
     pub id: u8,
 }
 
-pub struct PapHandled {
-    pub outcome: Outcome,
-    pub pap: Pap,
-    pub replies: Replies,
+pub(crate) struct PapHandled {
+    pub(crate) outcome: Outcome,
+    pub(crate) pap: Pap,
+    pub(crate) replies: Replies,
 }
 
 fn is_sent(s: PapState) -> bool

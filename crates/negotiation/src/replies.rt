@@ -4,6 +4,7 @@ ghost use mathlib.Core.List.{[]};
 ghost use Prim.Native.Nat.{_≤_, _<_};
 ghost use lib.ListN.{length};
 ghost use Rattle.options.specs.Wire.{pktOf, contentOf, Tidy, packetOf};
+ghost use Rattle.negotiation.specs.Messages.{maxRejected};
 ghost use Rattle.negotiation.specs.Replies.{maxReplies, repliesOf, added, joined};
 use options::wire::Packet;
 
@@ -12,7 +13,7 @@ pub const MAX_REPLIES: usize = 3;
 
 // A packet: protocol, code, id, Length, data.
 pub(crate) fn emit(protocol: u16, code: u8, id: u8, d: &[u8]) -> Packet
-    requires { ⌜ length (now d) ≤ 122 ⌝ }
+    requires { ⌜ length (now d) ≤ maxRejected ⌝ }
     ensures { λ r. ⌜ r ≡ pktOf (packetOf protocol code id (now (d .entry))) ⌝ }
 {
     let n = d.len() + 4;
@@ -29,7 +30,7 @@ pub(crate) fn emit(protocol: u16, code: u8, id: u8, d: &[u8]) -> Packet
 
 // The same, with the bytes of a packet as data.
 pub(crate) fn emit_packet(protocol: u16, code: u8, id: u8, b: Packet) -> Packet
-    requires { ⌜ Tidy b × (b .len ≤ 122) ⌝ }
+    requires { ⌜ Tidy b × (b .len ≤ maxRejected) ⌝ }
     ensures { λ r. ⌜ r ≡ pktOf (packetOf protocol code id (contentOf b)) ⌝ }
 {
     let n = b.len;

@@ -11,7 +11,7 @@ use lib.Dec.{ltb, eqb, lit<}
 use lib.ListN.{length, drop, getD, set}
 use Rattle.laws.specs.Each.{Bytes}
 use Rattle.laws.proofs.Cases.{by-le, by-test, cond-both}
-use Rattle.options.specs.Wire.{packetOf, contentOf}
+use Rattle.options.specs.Wire.{maxPacket, packetOf, contentOf}
 use Rattle.options.specs.Options.{walkOf}
 use Rattle.options.specs.Proto.{protocolOf}
 use Rattle.options.specs.Reply.{freshReply}
@@ -53,7 +53,7 @@ module _ {X P : Type 0} (T : theirs.Protocol P) (inj : X → Proto) (view : X �
   pub data SameTurn (pkt : List ℕ) : Run (theirs.Handled P) → ours.Reaction → Type 0 where
     same : {h : theirs.Handled P} {t : ours.Reaction} (i : ℕ) (s : State) (x : X) → i < 256 → h .fsm ≡ there i s x → t .fsm ≡ here i s x → t .outcome ≡ Done
         → h .pkt ≡ cond (t .echoed) (set pkt 2 10) pkt → (t .echoed ≡ true → 2 < length pkt) → Carried (h .tx) (t .sent) → SameTurn pkt (returns h) t
-    long : {h : theirs.Handled P} {t : ours.Reaction} (q : Packet) → h .tx ≡ q ∷ [] → 128 < packetLen q → t .outcome ≡ Refused ReplyLong → SameTurn pkt (returns h) t
+    long : {h : theirs.Handled P} {t : ours.Reaction} (q : Packet) → h .tx ≡ q ∷ [] → maxPacket < packetLen q → t .outcome ≡ Refused ReplyLong → SameTurn pkt (returns h) t
     stops : {p : Place} {t : ours.Reaction} → RefusedAt p (t .outcome) → SameTurn pkt (panics p) t
 
   -- ---- what is sent

@@ -17,7 +17,7 @@ use Rattle.framing.specs.declared.frame_reader.Reading.the-variants.{Crate}
 use Rattle.framing.specs.declared.frame_reader.FrameReader.{FrameReader}
 use Rattle.negotiation.specs.Automaton.{isOpened}
 use Rattle.options.specs.Ipv4cp.{shown, shownIp}
-use Rattle.negotiation.specs.Credentials.{fitsCredentials}
+use Rattle.negotiation.specs.Credentials.{maxCredentials, fitsCredentials}
 use Rattle.phases.specs.Phases.{withPhase, newOf, openOf, statusOf}
 use Rattle.options.specs.declared.ipv4cp.IpOption as ip
 use Rattle.phases.specs.declared.ppp.Phase.{Phase}
@@ -103,10 +103,10 @@ made name password =
       ppp = record { phase = ppp.Dead; opening = false; lcp = newFsm lcpProtocol newLcp; pap = record { state = PapClosed; id = 1; username = name; password = password }; ipv4cp = newFsm ipv4cpProtocol newIpv4cp };
     }
 
-fits-not : (n m : ℕ) → 120 < n + m → fitsCredentials n m ≡ false
+fits-not : (n m : ℕ) → maxCredentials < n + m → fitsCredentials n m ≡ false
 fits-not n m h = by-test (fitsCredentials n m) (λ t. absurd (omega (arith, fits-sum n m t))) (λ t. t)
 
-fresh-is : (name password : List ℕ) (k : Reading) → length name + length password ≤ 120
+fresh-is : (name password : List ℕ) (k : Reading) → length name + length password ≤ maxCredentials
     → theirs.newLink name password ≡ returns (viewLink (linkOf (reader.freshReader k) (newOf name password .ppp)))
 fresh-is name password k h =
     let held = credentials-held name password h in
@@ -116,11 +116,11 @@ module _ (name password : List ℕ) (k : Choices) {o : Outcome} {l : PPPoS} (c :
   fresh : k .reading ≡ Crate → l .«frame_reader» .reading ≡ Crate
   fresh crate = ap (λ (x : PPPoS). x .«frame_reader» .reading) (c .link) ∙ crate
 
-  pub new-fits : k .reading ≡ Crate → length name + length password ≤ 120 → (o ≡ Done) × (theirs.newLink name password ≡ returns (viewLink l)) × (l .«frame_reader» .reading ≡ Crate)
+  pub new-fits : k .reading ≡ Crate → length name + length password ≤ maxCredentials → (o ≡ Done) × (theirs.newLink name password ≡ returns (viewLink l)) × (l .«frame_reader» .reading ≡ Crate)
   new-fits crate h =
       (c .outcome ∙ rw (sum-fits (length name) (length password) h) refl, fresh-is name password (k .reading) h ∙ ap returns (sym (ap viewLink (c .link))), fresh crate)
 
-  pub new-over : k .reading ≡ Crate → 120 < length name + length password → (o ≡ Refused (Negotiation CredentialsLong)) × (theirs.newLink [] [] ≡ returns (viewLink l)) × (l .«frame_reader» .reading ≡ Crate)
+  pub new-over : k .reading ≡ Crate → maxCredentials < length name + length password → (o ≡ Refused (Negotiation CredentialsLong)) × (theirs.newLink [] [] ≡ returns (viewLink l)) × (l .«frame_reader» .reading ≡ Crate)
   new-over crate h =
       let e = fits-not (length name) (length password) h in
       let link : l ≡ linkOf (reader.freshReader (k .reading)) (newOf [] [] .ppp) = c .link ∙ rw e refl in
@@ -142,5 +142,5 @@ module _ (name password : List ℕ) (k : Choices) {o : Outcome} {l : PPPoS} (c :
       let z : theirs.newLink name password ≡ returns (made name password) = rw (t, u) refl in
       apart (cc)))
     where
-      four : 120 < length name + length password → outcomeNumber o ≡ 4
+      four : maxCredentials < length name + length password → outcomeNumber o ≡ 4
       four h = let e : o ≡ Refused (Negotiation CredentialsLong) = c .outcome ∙ rw (fits-not (length name) (length password) h) refl in ap outcomeNumber e

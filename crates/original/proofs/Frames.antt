@@ -17,6 +17,7 @@ use Rattle.framing.specs.Rfc1662.{fcs, frame}
 use Rattle.framing.specs.Writer.{Out, write, Ran, units, startUnits, finishUnits, frameUnits, fit}
 use Rattle.framing.proofs.Run.{run-next, run-stop, write-closed, fit-all}
 use Rattle.framing.proofs.Frame.{join-frame}
+use Rattle.options.specs.Wire.{maxPacket}
 use Rattle.link.specs.Frames.{everyByte, frames}
 use Rattle.options.proofs.Fair.{Short}
 use Rattle.original.specs.Run.{Run, returns, panics, replyFull, _>>=_}
@@ -102,10 +103,10 @@ frame-is w p c h =
     (λ k. let t = lt-leb (w .len + length (frame m p)) (length (w .buf)) k in rw (← closed .same-done, t) refl)
 
 -- one packet
-pub transmit-is : (w : FrameWriter) {q : Packet} {l : List ℕ} → Carries q l → length l ≤ 128 → w .len ≤ length (w .buf)
+pub transmit-is : (w : FrameWriter) {q : Packet} {l : List ℕ} → Carries q l → length l ≤ maxPacket → w .len ≤ length (w .buf)
     → transmit w q ≡ ifRoom w (frame (w .asyncmap) l) (fcs 0x3DE3 l)
 unfolding transmit
-transmit-is w {q} {l} c short h = rw (c .len, le-ltb 128 (length l) short, c .is) (chain-is w l (c .bytes) ∙ frame-is w l (fcs 0x3DE3 l) h)
+transmit-is w {q} {l} c short h = rw (c .len, le-ltb maxPacket (length l) short, c .is) (chain-is w l (c .bytes) ∙ frame-is w l (fcs 0x3DE3 l) h)
 
 -- the check value behind packets
 abbrev pub crcAfter : ℕ → List (List ℕ) → ℕ

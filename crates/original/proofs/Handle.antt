@@ -13,7 +13,7 @@ use Rattle.laws.specs.Be.{beBytes}
 use Rattle.laws.specs.Each.{Bytes}
 use Rattle.laws.proofs.Be.{length-be}
 use Rattle.laws.proofs.Cases.{by-le, by-test, cond-both}
-use Rattle.options.specs.Wire.{lengthField}
+use Rattle.options.specs.Wire.{maxPacket, lengthField}
 use Rattle.options.specs.Proto.{protocolOf}
 use Rattle.negotiation.specs.Messages.{echoBytes}
 use Rattle.negotiation.specs.Automaton as ours
@@ -82,8 +82,8 @@ module _ {X P : Type 0} (T : theirs.Protocol P) (inj : X → Proto) (view : X �
         (λ u. let h = ltb-false (length pkt) 3 u in
         let q = theirs.packetOf T (Raw (drop 2 (set pkt 2 10))) in
         let size : packetLen q ≡ length pkt = rw (echo-part pkt h) (omega (arith, length-drop 3 pkt)) in
-        by-test (ltb 128 (length pkt))
-        (λ v. rw v (long q refl (omega (arith, size, ltb-true 128 (length pkt) v)) refl))
+        by-test (ltb maxPacket (length pkt))
+        (λ v. rw v (long q refl (omega (arith, size, ltb-true maxPacket (length pkt) v)) refl))
         (λ v. rw v (same i s x small refl refl refl refl (λ _. omega arith) (more (echo-carries x h) none)))))
         (λ _. plain T inj view stands pkt i s x small none)
 

@@ -61,7 +61,7 @@ module _ (P : PPPoS → Type 0) (fetch : (r : FrameReader) (p : Ppp) → P (link
       poll-leaves P l tx rx k next (λ other. turn-lasts (reader.fetched r) (l .ppp) (reader.packetOf (heldBy l rx)) parts other next) (step r (l .ppp) k)
 
   -- and of the other calls
-  lasts-by : ((name password : List ℕ) (c : Choices) → Bytes name → Bytes password → length name + length password ≤ 120 → P (linkOf (reader.freshReader (c .reading)) (freshPpp name password)))
+  lasts-by : ((name password : List ℕ) (c : Choices) → Bytes name → Bytes password → length name + length password ≤ maxCredentials → P (linkOf (reader.freshReader (c .reading)) (freshPpp name password)))
       → ((r : FrameReader) (p : Ppp) → P (linkOf r p) → P (linkOf r (withOpening (withPhase p Establish) true)))
       → ((l : PPPoS) (rx bs : List ℕ) → P l → P (linkOf (reader.consumed (heldBy l rx) bs .now .reader) (l .ppp))) → Lasts P
   lasts-by fresh opened fed =

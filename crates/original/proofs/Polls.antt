@@ -15,7 +15,7 @@ use Rattle.laws.proofs.Cases.{by-le, by-test}
 use Rattle.framing.specs.Reader.{fetched}
 use Rattle.framing.specs.declared.frame_reader.Reading.the-variants.{Crate}
 use Rattle.framing.specs.declared.frame_reader.FrameReader.{FrameReader}
-use Rattle.options.specs.Wire.{protocolIn}
+use Rattle.options.specs.Wire.{maxPacket, protocolIn}
 use Rattle.phases.specs.Phases.{PppTurn, phaseOf, turnOf, receivedOf}
 use Rattle.options.specs.declared.refusal.Refusal.{Refusal}
 use Rattle.options.specs.declared.refusal.Refusal.the-variants.{ReplyLong}
@@ -121,10 +121,10 @@ module _ (l : PPPoS) (tx rx : List ℕ) (held : received.Held (l .ppp)) (bytes :
           rw (stopped replyFull none, turn-done (l .ppp) pkt o, frames-append (t .sent) (phaseOf (t .ppp) .sent), length-append f g, lt-leb (length f + length g) (length tx) (omega arith)) (refuses (full refl refl)))
 
       -- a packet above 128 bytes
-      too-long : (q : Packet) → r .tx ≡ q ∷ [] → 128 < packetLen q → t .outcome ≡ Refused ReplyLong → Goal
+      too-long : (q : Packet) → r .tx ≡ q ∷ [] → maxPacket < packetLen q → t .outcome ≡ Refused ReplyLong → Goal
       unfolding theirs.transmitAll theirs.transmit
       too-long q e h o =
-          let long : theirs.transmitAll (newWriter tx) (r .tx) ≡ panics replyLong = rw (e, lt-ltb 128 (packetLen q) h) refl in
+          let long : theirs.transmitAll (newWriter tx) (r .tx) ≡ panics replyLong = rw (e, lt-ltb maxPacket (packetLen q) h) refl in
           rw (stopped replyLong long, refused-is l next tx rx pkt o) (refuses (dropped ReplyLong (refused-at ReplyLong refl) refl))
 
     pub received-same : Goal

@@ -11,10 +11,10 @@ use lib.Dec.{ltb, eqb, lit<}
 use lib.ListN.{length, set}
 use Rattle.laws.specs.Each.{Bytes}
 use Rattle.laws.proofs.Cases.{by-test, cond-both}
-use Rattle.negotiation.specs.Messages.{nextId}
+use Rattle.negotiation.specs.Messages.{maxRejected, nextId}
 use Rattle.negotiation.specs.Automaton as ours
 use Rattle.negotiation.specs.Auth.{AuthTurn}
-use Rattle.options.specs.Wire.{protocolIn}
+use Rattle.options.specs.Wire.{maxPacket, protocolIn}
 use Rattle.negotiation.specs.Automaton.{protocolRejectOf}
 use Rattle.phases.specs.Phases.{PppTurn, lcpTurn, ipv4cpTurn, rejectOf, receivedOf, authTurn}
 use Rattle.options.specs.declared.refusal.Refusal.the-variants.{ReplyLong}
@@ -45,7 +45,7 @@ pub record Held (p : ppp.Ppp) : Type 0 where
 pub data SameReceived (pkt : List ℕ) : Run theirs.Received → PppTurn → Type 0 where
   same : {r : theirs.Received} {t : PppTurn} → r .ppp ≡ viewPpp (t .ppp) → Held (t .ppp) → t .outcome ≡ Done
       → r .pkt ≡ cond (t .echoed) (set pkt 2 10) pkt → (t .echoed ≡ true → 2 < length pkt) → Carried (r .tx) (t .sent) → SameReceived pkt (returns r) t
-  long : {r : theirs.Received} {t : PppTurn} (q : Packet) → r .tx ≡ q ∷ [] → 128 < packetLen q → t .outcome ≡ Refused ReplyLong → SameReceived pkt (returns r) t
+  long : {r : theirs.Received} {t : PppTurn} (q : Packet) → r .tx ≡ q ∷ [] → maxPacket < packetLen q → t .outcome ≡ Refused ReplyLong → SameReceived pkt (returns r) t
   stops : {p : Place} {t : PppTurn} → RefusedAt p (t .outcome) → SameReceived pkt (panics p) t
 
 module _ (p : ppp.Ppp) (held : Held p) (pkt : List ℕ) where
@@ -74,10 +74,10 @@ module _ (p : ppp.Ppp) (held : Held p) (pkt : List ℕ) where
   reject-same bytes =
       let i = nextId (p .lcp .id) in
       let q : Packet = packetOf lcpProtocol (PPP 8 i (RawData pkt)) in
-      by-test (ltb 122 (length pkt))
-      (λ t. rw t (long q refl (omega (arith, ltb-true 122 (length pkt) t)) refl))
+      by-test (ltb maxRejected (length pkt))
+      (λ t. rw t (long q refl (omega (arith, ltb-true maxRejected (length pkt) t)) refl))
       (λ t. rw t (same refl (record { lcp-id = next; ipv4cp-id = held .ipv4cp-id; auth = held .auth }) refl refl (λ e. absurd (false≢true e))
-      (more (carries-ppp LCP 0xC021 8 i (RawData pkt) pkt refl (lit< tt) next refl refl bytes (omega (arith, ltb-false 122 (length pkt) t))) none)))
+      (more (carries-ppp LCP 0xC021 8 i (RawData pkt) pkt refl (lit< tt) next refl refl bytes (omega (arith, ltb-false maxRejected (length pkt) t))) none)))
     where
       next : nextId (p .lcp .id) < 256
       next = mod-lt (p .lcp .id + 1) {m = 256} (lit< tt)

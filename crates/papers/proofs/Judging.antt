@@ -1,6 +1,6 @@
 -- How an automaton takes a received packet of RFC 1661, by the paper's code: what it sends, and what it leaves.
 -- Assumes nothing.
-use Prim.Native.Nat.{ℕ, _≤_, _<_}
+use Prim.Native.Nat.{ℕ, _+_, _≤_, _<_}
 use mathlib.Core.Path.{_≡_, refl, _∙_}
 use mathlib.Core.Bool.{Bool, true, false}
 use mathlib.Core.List.{List, [], _∷_}
@@ -13,7 +13,7 @@ use Rattle.options.specs.declared.proto.Proto.{Proto}
 use Rattle.options.specs.declared.refusal.Outcome.the-variants.{Done}
 use Rattle.negotiation.specs.declared.option_fsm.OptionFsm.{OptionFsm}
 use Rattle.papers.specs.Rfc1661.{Carried, configureAck, configureNak, configureReject, terminateRequest, terminateAck, codeReject, protocolReject, echoRequest, echoReply, discardRequest, Option, Options}
-use Rattle.options.specs.Wire.{packetOf}
+use Rattle.options.specs.Wire.{maxPacket, packetOf}
 use Rattle.options.specs.Options.{walkOf}
 use Rattle.options.specs.Proto.{protocolOf, ownNacked, nacksOf}
 use Rattle.options.proofs.Fair.{length-packet}
@@ -125,11 +125,11 @@ module _ (f : OptionFsm) {bytes info : List ℕ} {p i : ℕ} where
 
   -- ---- Echo-Request
 
-  pub takes-echo : isOpened (f .state) ≡ true → Carried bytes p echoRequest i info → length info ≤ 122
+  pub takes-echo : isOpened (f .state) ≡ true → Carried bytes p echoRequest i info → length info + 6 ≤ maxPacket
       → (handleOf f bytes .fsm ≡ f) × One (handleOf f bytes .sent) (numberFor (f .proto)) echoReply i info
   unfolding actOf echoOf beBytes
   takes-echo e k h =
       let a : 3 ≤ length (packetOf p 9 i info) = omega (arith, length-packet p 9 i info) in
-      let b : length (packetOf p 9 i info) ≤ 128 = omega (arith, length-packet p 9 i info) in
+      let b : length (packetOf p 9 i info) ≤ maxPacket = omega (arith, length-packet p 9 i info) in
       rw (by-code f k, e, le-ltb _ _ a, le-ltb _ _ b)
       (refl, record { bytes = packetOf (protocolOf (f .proto)) 10 i info; only = refl; packet = sent-by (f .proto) 10 i info (omega arith) (k .packet .id-octet) (omega arith) })

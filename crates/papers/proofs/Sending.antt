@@ -17,7 +17,7 @@ use Rattle.papers.specs.Rfc1332.{ipcp, IpAddress, PrimaryDns, SecondaryD
 use Rattle.options.specs.Wire.{packetOf}
 use Rattle.options.specs.Proto.{protocolOf, ownOf}
 use Rattle.options.proofs.Fair.{own-short}
-use Rattle.negotiation.specs.Messages.{nextId, requestBytes, rejectBytes}
+use Rattle.negotiation.specs.Messages.{maxRejected, nextId, requestBytes, rejectBytes}
 use Rattle.negotiation.specs.Automaton.{reacts, stepped, requested, protocolRejectOf, openedFsm}
 use Rattle.papers.proofs.Packets.{Sent, laid-packet}
 use Rattle.papers.proofs.Layouts1661.{Carries, laid-both}
@@ -111,7 +111,7 @@ pub record Rejects (i protocol : ℕ) (information bytes : List ℕ) : Type 0 wh
   pub packet : Sent bytes lcp protocolReject i info
   pub rejected : Rejected info protocol information
 
-pub rejects : (f : OptionFsm) {pkt information : List ℕ} {protocol : ℕ} → Encapsulated pkt protocol information → length pkt ≤ 122
+pub rejects : (f : OptionFsm) {pkt information : List ℕ} {protocol : ℕ} → Encapsulated pkt protocol information → length pkt ≤ maxRejected
     → (protocolRejectOf f pkt ≡ reacts (stepped f) (rejectBytes (nextId (f .id)) pkt ∷ []))
     × Rejects (nextId (f .id)) protocol information (rejectBytes (nextId (f .id)) pkt)
 unfolding protocolRejectOf

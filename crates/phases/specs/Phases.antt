@@ -211,7 +211,7 @@ restsOf p = restsIn (p .phase) (p .lcp .state) (isAuthClosed (p .auth)) (isAuthO
 abbrev pub pollOf : Ppp → PppTurn
 pollOf p = pppTurned (phaseOf p .ppp) (phaseOf p .sent)
 
-abbrev pub thenPhase : Ppp → PppTurn → PppTurn
+abbrev thenPhase : Ppp → PppTurn → PppTurn
 thenPhase p t =
     cond (isDone (t .outcome))
     (record { outcome = Done; echoed = t .echoed; ppp = phaseOf (t .ppp) .ppp; sent = t .sent ++ phaseOf (t .ppp) .sent })

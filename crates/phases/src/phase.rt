@@ -17,9 +17,9 @@ use negotiation::states::is_opened;
 use options::lcp::AuthType;
 
 // What a phase step leaves: the record, and at most one packet.
-pub struct Stepped {
-    pub ppp: Ppp,
-    pub replies: Replies,
+pub(crate) struct Stepped {
+    pub(crate) ppp: Ppp,
+    pub(crate) replies: Replies,
 }
 
 // In Establish it does not count whether authentication is Opened.

@@ -12,6 +12,7 @@ use Rattle.laws.proofs.Cases.{by-le}
 use Rattle.options.specs.Refusal.{numberOf, isDone, outcomeNumber}
 use Rattle.options.specs.declared.refusal.Outcome.{Outcome}
 use Rattle.options.specs.declared.refusal.Outcome.the-variants.{Done, Refused}
+use Rattle.negotiation.specs.Messages.{maxRejected}
 use Rattle.negotiation.specs.Replies.{repliesOf}
 use Rattle.negotiation.specs.Automaton.{handled, handleOf, protocolRejectOf}
 use Rattle.negotiation.specs.Auth.{authHandled, authHandleOf}
@@ -67,7 +68,7 @@ pub reject-first : (f : OptionFsm) (pkt : List ℕ) {h : Handled} → h ≡ hand
     → First (outcomeNumber (h .outcome)) (record { kept = h .fsm; echoed = h .echoed; count = h .replies .count }) (rejectRows f pkt)
 unfolding protocolRejectOf
 reject-first f pkt {h} e =
-    by-le (length pkt) 122
+    by-le (length pkt) maxRejected
     (λ l. rw (e, le-ltb _ _ l) (inr ((λ k. omega arith), refl)))
     (λ l. rw (e, lt-ltb _ _ l) (inl (refl, omega arith, (refl, refl, count-of []))))
 

@@ -11,6 +11,7 @@ use lib.Dec.{eqb, ltb}
 use lib.ListN.{length, take, drop, getD, length-drop}
 use lib.Seq.{length-take-le}
 use Rattle.laws.proofs.Cases.{by-test, by-le, cond-all, cond-by}
+use Rattle.options.specs.Wire.{maxPacket}
 use Rattle.options.specs.Refusal.{outcomeNumber}
 use Rattle.options.specs.Options.{walkOf}
 use Rattle.options.specs.Proto.{startOf, nacksOf}
@@ -25,6 +26,7 @@ use Rattle.phases.specs.declared.ppp.Ppp.{Ppp}
 use Rattle.options.specs.declared.refusal.Outcome.{Outcome}
 use Rattle.options.specs.declared.refusal.Outcome.the-variants.{Done, Refused}
 use Rattle.options.specs.declared.refusal.Refusal.the-variants.{ConfigureShort, EchoEmpty, PapPast as LengthPast, ReplyLong as LongReply}
+use Rattle.negotiation.specs.Messages.{maxRejected}
 use Rattle.negotiation.specs.declared.states.State.{State}
 use Rattle.negotiation.specs.declared.states.State.the-variants.{Closed, ReqSent, AckReceived, AckSent, Opened}
 use Rattle.refusals.specs.Packets.{Which, lcp, ipv4cp, protocolAt, codeAt, lengthAt, dataAt, numberFor, stateFor, Heeded, Fault, Broken, PapPast, LengthShort, OptionFault, ReplyLong}
@@ -108,11 +110,11 @@ module _ (f : OptionFsm) where
     unfolding echoOf
     echo-empty l = rw (h, lt-ltb _ _ l) refl
 
-    echo-long : 3 ≤ length q → 128 < length q → echoOf f q .outcome ≡ Refused LongReply
+    echo-long : 3 ≤ length q → maxPacket < length q → echoOf f q .outcome ≡ Refused LongReply
     unfolding echoOf
     echo-long l m = rw (h, le-ltb _ _ l, lt-ltb _ _ m) refl
 
-    echo-fine : 3 ≤ length q → length q ≤ 128 → echoOf f q .outcome ≡ Done
+    echo-fine : 3 ≤ length q → length q ≤ maxPacket → echoOf f q .outcome ≡ Done
     unfolding echoOf
     echo-fine l m = rw (h, le-ltb _ _ l, le-ltb _ _ m) refl
 
@@ -221,11 +223,11 @@ module _ (p : Ppp) (pkt : List ℕ) where
       rw (heeded k p, e, act-rej f _ (bodyOf pkt) (closed-not w n), nack-outcome f true (bodyOf pkt) l) (answer-refused true (f .proto) (dataAt pkt) x)
 
   reject-refused : (protocolAt pkt ≡ 0xC021 → ⊥) → (protocolAt pkt ≡ 0xC023 → ⊥) → (protocolAt pkt ≡ 0x0021 → ⊥) → (protocolAt pkt ≡ 0x8021 → ⊥)
-      → 128 < length pkt + 6 → numberFrom p pkt ≡ 10
+      → maxPacket < length pkt + 6 → numberFrom p pkt ≡ 10
   unfolding receivedOf rejectOf protocolRejectOf
   reject-refused a b c d h =
       let two : 2 ≤ length pkt = omega arith in
-      let long : 122 < length pkt = omega arith in
+      let long : maxRejected < length pkt = omega arith in
       rw (le-ltb _ _ two, ne-eqb _ _ a, ne-eqb _ _ b, ne-eqb _ _ c, ne-eqb _ _ d, lt-ltb _ _ long) refl
 
   pub reply-refused : ReplyLong p pkt → numberFrom p pkt ≡ 10
@@ -277,7 +279,7 @@ module _ (p : Ppp) (pkt : List ℕ) (w : Which) where
       by-test (isOpened (f .state))
       (λ s. let o = sym (fsm-state w p) ∙ opened-is (f .state) s in
       by-le 3 (length q)
-      (λ h. by-le (length q) 128 (λ l. rw (echo-fine f q s h l) fine)
+      (λ h. by-le (length q) maxPacket (λ l. rw (echo-fine f q s h l) fine)
       (λ l. rw (echo-long f q s h l) (replyLong (ReplyLong.echo w k o (omega (arith, length-body k))))))
       (λ h. rw (echo-empty f q s h) (lengthShort (LengthShort.echo w k o (omega (arith, length-body k))))))
       (λ s. rw (echo-elsewhere f q s) fine)
@@ -324,6 +326,6 @@ module _ (p : Ppp) (pkt : List ℕ) where
       (λ a. cond-by P (eqb n 0xC023) (λ e. pap-cause (eqb-true n 0xC023 e))
       (λ b. cond-by P (eqb n 0x0021) (λ _. fine)
       (λ c. cond-by P (eqb n 0x8021) (λ e. handle-cause p pkt ipv4cp (eqb-true n 0x8021 e))
-      (λ d. cond-by (λ (t : Reaction). Cause p pkt (outcomeNumber (t .outcome))) (ltb 122 (length pkt))
-      (λ l. replyLong (ReplyLong.reject (eqb-false _ _ a) (eqb-false _ _ b) (eqb-false _ _ c) (eqb-false _ _ d) (omega (arith, ltb-true 122 (length pkt) l))))
+      (λ d. cond-by (λ (t : Reaction). Cause p pkt (outcomeNumber (t .outcome))) (ltb maxRejected (length pkt))
+      (λ l. replyLong (ReplyLong.reject (eqb-false _ _ a) (eqb-false _ _ b) (eqb-false _ _ c) (eqb-false _ _ d) (omega (arith, ltb-true maxRejected (length pkt) l))))
       (λ _. fine))))))

@@ -4,11 +4,13 @@ use feeding::feed::start;
 use framing::frame_reader::Reading;
 use libc::STDOUT_FILENO;
 use link::choices::Choices;
+use link::frames::ALWAYS_ENOUGH;
 use phases::ppp::Status;
+use status_lines::status::MAX_LINES;
 use status_lines::status::text;
 
 fn played(bytes: &[u8]) -> Status {
-    let mut tx = [0u8; 795];
+    let mut tx = [0u8; ALWAYS_ENOUGH];
     let mut rx = [0u8; 1600];
     let p = start(Choices::plain(Reading::Crate), &mut tx, &mut rx);
     let link = p.link;
@@ -29,7 +31,7 @@ fn sample(name: &[u8]) {
     libc::close(fd);
     io::write_all(STDOUT_FILENO, name);
     io::write_all(STDOUT_FILENO, b"\n");
-    let mut out = [0u8; 111];
+    let mut out = [0u8; MAX_LINES];
     let t = text(played(&bytes[..n]), &mut out);
     io::write_all(STDOUT_FILENO, &t[..]);
 }

@@ -5,7 +5,9 @@ use framing::frame_reader::Reading;
 use libc::STDIN_FILENO;
 use libc::STDOUT_FILENO;
 use link::choices::Choices;
+use link::frames::ALWAYS_ENOUGH;
 use link::pppos::PPPoS;
+use status_lines::status::MAX_LINES;
 use status_lines::status::text;
 
 struct Step {
@@ -42,12 +44,12 @@ fn take_all(link: PPPoS, tx: &mut [u8], rx: &mut [u8]) -> PPPoS {
 }
 
 fn main() {
-    let mut tx = [0u8; 795];
+    let mut tx = [0u8; ALWAYS_ENOUGH];
     let mut rx = [0u8; 1600];
     let p = start(Choices::plain(Reading::Crate), &mut tx, &mut rx);
     let link = p.link;
     let l = take_all(link, &mut tx, &mut rx);
-    let mut out = [0u8; 111];
+    let mut out = [0u8; MAX_LINES];
     let t = text(l.status(), &mut out);
     io::write_all(STDOUT_FILENO, &t[..]);
 }

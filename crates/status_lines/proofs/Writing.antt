@@ -19,7 +19,7 @@ use Rattle.phases.specs.declared.ppp.Ipv4Status.{Ipv4Status}
 use Rattle.phases.specs.declared.ppp.Ipv4Status.the-variants.{Down, Up}
 use Rattle.phases.specs.declared.ppp.Status.{Status}
 use Rattle.status_lines.specs.declared.status.Fields.{Fields}
-use Rattle.status_lines.specs.Lines.{phaseName, upName, decimal, dotted, addressText, addressLine, addressKey, peerKey, dns1Key, dns2Key, headOf, sixLines, fieldsWith, fieldsOf, linesOf, Puts, Shows}
+use Rattle.status_lines.specs.Lines.{phaseName, upName, decimal, dotted, addressText, addressLine, addressKey, peerKey, dns1Key, dns2Key, headOf, sixLines, fieldsWith, fieldsOf, linesOf, maxLines, Puts, Shows}
 use Rattle.framing.specs.declared.refusal.Refusal.the-variants.{BufferFull}
 use Rattle.framing.specs.declared.refusal.Outcome.{Outcome}
 use Rattle.framing.specs.declared.refusal.Outcome.the-variants.{Done, Refused}
@@ -74,12 +74,11 @@ head-length f up = simp length-append (omega arith)
 pub head-short : (f : Phase) (up : Bool) → length (headOf f up) ≤ 26
 head-short f up = omega (arith, head-length f up, phase-short f, up-short up)
 
--- 111 bytes hold all lines of a status: "up" is shorter than "down", under which no address is shown
-pub lines-short : (s : Status) → length (linesOf s) ≤ 111
+pub lines-short : (s : Status) → length (linesOf s) ≤ maxLines
 unfolding sixLines
 lines-short s = go (s .phase) (s .ipv4)
   where
-    go : (f : Phase) (i : Ipv4Status) → length (sixLines (fieldsWith f i)) ≤ 111
+    go : (f : Phase) (i : Ipv4Status) → length (sixLines (fieldsWith f i)) ≤ maxLines
     go f Down =
         simp length-append
         (omega (arith, head-length f false, phase-short f, none-short addressKey, none-short peerKey, none-short dns1Key, none-short dns2Key))

@@ -98,6 +98,10 @@ fieldsOf s = fieldsWith (s .phase) (s .ipv4)
 abbrev pub linesOf : Status → List ℕ
 linesOf s = sixLines (fieldsOf s)
 
+-- the lines of a status are never longer: "up" is shorter than "down", under which no address is shown
+abbrev pub maxLines : ℕ
+maxLines = 111
+
 -- text from index at of a buffer on: where it ends, and the buffer
 pub record Puts (text buf : List ℕ) (at end : ℕ) (buf′ : List ℕ) : Type 0 where
   pub ends : end ≡ at + length text

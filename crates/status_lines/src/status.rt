@@ -13,14 +13,17 @@ use phases::ppp::Ipv4Status;
 use phases::ppp::Phase;
 use phases::ppp::Status;
 
+// The lines of a status are never longer.
+pub const MAX_LINES: usize = 111;
+
 // What the lines say, in their order.
-pub struct Fields {
-    pub phase: Phase,
-    pub up: bool,
-    pub address: Shown,
-    pub peer: Shown,
-    pub dns1: Shown,
-    pub dns2: Shown,
+pub(crate) struct Fields {
+    pub(crate) phase: Phase,
+    pub(crate) up: bool,
+    pub(crate) address: Shown,
+    pub(crate) peer: Shown,
+    pub(crate) dns1: Shown,
+    pub(crate) dns2: Shown,
 }
 
 pub struct Written {

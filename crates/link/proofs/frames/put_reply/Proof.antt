@@ -5,9 +5,10 @@ use lib.Seq.{length-take-le}
 use borrow.Author.Needs.{needs}
 use Rattle.link.proofs.frames.put_reply.Statement.{statement}
 use Rattle.link.proofs.frames.put_reply.Tie as tie
+use Rattle.options.specs.Wire.{maxPacket}
 
 -- an array's length
-long : (c : tie.Start) → length (c .args .p .bytes) ≡ 128
+long : (c : tie.Start) → length (c .args .p .bytes) ≡ maxPacket
 long c = search needs
 
 array-share-prefix-bytes : tie.Need-array-share-prefix-bytes

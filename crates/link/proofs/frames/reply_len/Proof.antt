@@ -2,7 +2,7 @@ use mathlib.Core.Path.{_≡_, sym, _∙_}
 use native.Mathlib.Omega.{arith}
 use lib.ListN.{length}
 use lib.Seq.{length-take-le}
-use Rattle.options.specs.Wire.{contentOf}
+use Rattle.options.specs.Wire.{maxPacket, contentOf}
 use Rattle.link.proofs.Sending.{frame-short, capped-short}
 use Prim.Native.Nat.{_≤_}
 use borrow.Author.Needs.{needs}
@@ -10,7 +10,7 @@ use Rattle.link.proofs.frames.reply_len.Statement.{statement}
 use Rattle.link.proofs.frames.reply_len.Tie as tie
 
 -- an array's length
-long : (c : tie.Start) → length (c .args .p .bytes) ≡ 128
+long : (c : tie.Start) → length (c .args .p .bytes) ≡ maxPacket
 long c = search needs
 
 part : (c : tie.Start) → length (contentOf (c .args .p)) ≡ c .args .p .len
@@ -29,7 +29,7 @@ returns : tie.Need-returns
 returns c =
     let b = c .before .before .before in
     let l = contentOf (b .args .p) in
-    let h : length l ≤ 128 = omega (arith, part b, b .pre) in
+    let h : length l ≤ maxPacket = omega (arith, part b, b .pre) in
     let k = c .frame-len .ensures ∙ capped-short l h in
     (k, omega (arith, k, frame-short l h))
 

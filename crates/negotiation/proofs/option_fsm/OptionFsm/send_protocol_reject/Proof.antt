@@ -3,7 +3,7 @@ use native.Mathlib.Omega.{arith}
 use borrow.Author.Tests.{lt-ltb, le-ltb}
 use borrow.Author.Needs.{needs}
 use lib.ListN.{length}
-use Rattle.negotiation.specs.Messages.{nextId, rejectBytes}
+use Rattle.negotiation.specs.Messages.{maxRejected, nextId, rejectBytes}
 use Rattle.negotiation.specs.Automaton.{protocolRejectOf}
 use Rattle.negotiation.proofs.Automata.{one-reply}
 use Rattle.negotiation.proofs.option_fsm.OptionFsm.send_protocol_reject.Statement.{statement}
@@ -14,7 +14,7 @@ refuse-requires c κs = search needs
 
 returns : tie.Need-returns
 unfolding protocolRejectOf
-returns c = rw (lt-ltb 122 (length (c .before .before .before .args .pkt .now)) (omega arith)) (c .refuse .ensures)
+returns c = rw (lt-ltb maxRejected (length (c .before .before .before .args .pkt .now)) (omega arith)) (c .refuse .ensures)
 
 with-next-id-requires : tie.Need-with-next-id-requires
 with-next-id-requires c κs = search needs
@@ -34,7 +34,7 @@ returns-2 c =
     let a = c .before .before .before .before .before .before .args in
     let f = c .before .before .before .with-next-id .ensures in
     let e = one-reply (rejectBytes (nextId (a .self .id)) (a .pkt .now)) (c .before .before .none .ensures .0) (rw f at (c .before .reject-packet .ensures)) (c .add .ensures) in
-    rw (le-ltb 122 (length (a .pkt .now)) (omega arith), e, f) refl
+    rw (le-ltb maxRejected (length (a .pkt .now)) (omega arith), e, f) refl
 
 pub send-protocol-reject-spec : {M : Type 1} → statement M
 send-protocol-reject-spec =
