@@ -14,7 +14,7 @@ use Rattle.framing.specs.Writer.{over}
 use Rattle.framing.specs.Heard.{fetchedIn}
 use Rattle.framing.specs.declared.frame_reader.FrameReader.{FrameReader}
 use Rattle.framing.proofs.Reader.{consumed-fed, fed-left, Alike, alike-refl}
-use Rattle.phases.specs.Phases.{PppTurn, pppTurned, receivedOf, pollOf, turnOf}
+use Rattle.phases.specs.Phases.{Turn, turnTo, receivedOf, pollOf, turnOf}
 use Rattle.phases.specs.declared.ppp.Ppp.{Ppp}
 use Rattle.phases.proofs.Phasing.{received-ip, turn-ip}
 use Rattle.options.specs.Wire.{protocolIn}
@@ -36,7 +36,7 @@ is-ip x e =
     let k = both (leb 2 (length x)) (eqb (protocolIn x) 0x0021) e in
     (leb-true 2 (length x) (k .0), eqb-true (protocolIn x) 0x0021 (k .1))
 
-pub ip-received : (p : Ppp) (x : List ℕ) → isIp x ≡ true → receivedOf p x ≡ pppTurned p []
+pub ip-received : (p : Ppp) (x : List ℕ) → isIp x ≡ true → receivedOf p x ≡ turnTo p []
 ip-received p x e = received-ip p x (is-ip x e .0) (is-ip x e .1)
 
 pub ip-turn : (p : Ppp) (x : List ℕ) → isIp x ≡ true → turnOf p x ≡ pollOf p
@@ -55,7 +55,7 @@ echo-alike : (e : Bool) (r : FrameReader) (rx : List ℕ) → (e ≡ true → r 
 echo-alike true r rx k = record { same-reader = refl; same-room = length-set rx 3 10; same-kept = rw (k refl) refl }
 echo-alike false r rx k = alike-refl (held r rx)
 
-module _ (l : PPPoS) (r : FrameReader) (t : PppTurn) (tx rx : List ℕ) (room : length (frames (t .sent)) ≤ length tx) (k : t .echoed ≡ true → r .len ≡ 0) where
+module _ (l : PPPoS) (r : FrameReader) (t : Turn) (tx rx : List ℕ) (room : length (frames (t .sent)) ≤ length tx) (k : t .echoed ≡ true → r .len ≡ 0) where
   by-outcome : (o : negotiation.Outcome) → Alike (heldBy (byOutcome o l r t tx rx .link) (byOutcome o l r t tx rx .rx)) (held r rx)
   by-outcome negotiation.the-variants.Done = rw (le-leb (length (frames (t .sent))) (length tx) room) (echo-alike (t .echoed) r rx k)
   by-outcome (negotiation.the-variants.Refused why) = alike-refl (held r rx)
@@ -83,25 +83,25 @@ poll-fetches l tx rx h room =
 
 -- what such a poll comes to, where negotiation refuses nothing: its turn, and its frames behind one another
 module _ (l : PPPoS) (tx rx : List ℕ) (h : l .«frame_reader» .len ≤ length rx) (room : alwaysEnough ≤ length tx) where
-  abbrev pub turned : FrameReader → PppTurn → Poll
-  turned r t =
+  abbrev pub writtenPoll : FrameReader → Turn → Poll
+  writtenPoll r t =
       record { action = sent (length (frames (t .sent))); link = linkOf r (t .ppp); tx = over (frames (t .sent)) tx; rx = echoedIn (t .echoed) rx }
 
-  answered-turned : (r : FrameReader) (t : PppTurn) → length (frames (t .sent)) ≤ alwaysEnough → t .outcome ≡ negotiation.the-variants.Done → answeredPoll l r t tx rx ≡ turned r t
+  answered-written : (r : FrameReader) (t : Turn) → length (frames (t .sent)) ≤ alwaysEnough → t .outcome ≡ negotiation.the-variants.Done → answeredPoll l r t tx rx ≡ writtenPoll r t
   unfolding answeredPoll
-  answered-turned r t n e = rw (e, le-leb (length (frames (t .sent))) (length tx) (omega arith)) refl
+  answered-written r t n e = rw (e, le-leb (length (frames (t .sent))) (length tx) (omega arith)) refl
 
   pub poll-turns : isComplete (l .«frame_reader» .state) ≡ true → 3 ≤ l .«frame_reader» .len → isIp (packetOf (heldBy l rx)) ≡ false
       → turnOf (l .ppp) (packetOf (heldBy l rx)) .outcome ≡ negotiation.the-variants.Done
-      → pollLink l tx rx ≡ turned (fetched (l .«frame_reader»)) (turnOf (l .ppp) (packetOf (heldBy l rx)))
+      → pollLink l tx rx ≡ writtenPoll (fetched (l .«frame_reader»)) (turnOf (l .ppp) (packetOf (heldBy l rx)))
   unfolding pollLink packetPoll
   poll-turns f n i e =
       let r = l .«frame_reader» in
       rw (le-ltb (length rx) (r .len) h, f, le-ltb (r .len) 3 n, i)
-      (answered-turned (fetched r) (turnOf (l .ppp) (packetOf (heldBy l rx))) (turn-narrow (l .ppp) (packetOf (heldBy l rx))) e)
+      (answered-written (fetched r) (turnOf (l .ppp) (packetOf (heldBy l rx))) (turn-narrow (l .ppp) (packetOf (heldBy l rx))) e)
 
-  pub poll-waits : isComplete (l .«frame_reader» .state) ≡ false → pollLink l tx rx ≡ turned (l .«frame_reader») (pollOf (l .ppp))
+  pub poll-waits : isComplete (l .«frame_reader» .state) ≡ false → pollLink l tx rx ≡ writtenPoll (l .«frame_reader») (pollOf (l .ppp))
   unfolding pollLink
   poll-waits f =
       rw (le-ltb (length rx) (l .«frame_reader» .len) h, f)
-      (answered-turned (l .«frame_reader») (pollOf (l .ppp)) (poll-narrow (l .ppp)) refl)
+      (answered-written (l .«frame_reader») (pollOf (l .ppp)) (poll-narrow (l .ppp)) refl)

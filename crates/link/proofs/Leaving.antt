@@ -9,7 +9,7 @@ use lib.ListN.{length}
 use Rattle.laws.proofs.Cases.{cond-all, cond-by}
 use Rattle.framing.specs.Reader.{isComplete, isShort, fetched, packetOf}
 use Rattle.framing.specs.declared.frame_reader.FrameReader.{FrameReader}
-use Rattle.phases.specs.Phases.{PppTurn, pollOf, turnOf}
+use Rattle.phases.specs.Phases.{Turn, pollOf, turnOf}
 use Rattle.options.specs.declared.refusal.Outcome.{Outcome}
 use Rattle.options.specs.declared.refusal.Outcome.the-variants.{Done, Refused}
 use Rattle.link.specs.Frames.{frames}
@@ -20,7 +20,7 @@ module _ (P : PPPoS → Type 0) (l : PPPoS) (tx rx : List ℕ) (stays : P l) whe
   abbrev Leaves : Poll → Type 0
   Leaves q = P (q .link)
 
-  answered-leaves : (r : FrameReader) (t : PppTurn) → P (linkOf r (l .ppp)) → P (linkOf r (t .ppp)) → Leaves (answeredPoll l r t tx rx)
+  answered-leaves : (r : FrameReader) (t : Turn) → P (linkOf r (l .ppp)) → P (linkOf r (t .ppp)) → Leaves (answeredPoll l r t tx rx)
   unfolding answeredPoll
   answered-leaves r t old new = by-outcome (t .outcome)
     where

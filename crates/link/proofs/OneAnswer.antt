@@ -5,13 +5,13 @@ use mathlib.Core.List.{List}
 use Prim.Native.Nat.{ℕ}
 use Rattle.framing.specs.declared.frame_reader.FrameReader.{FrameReader}
 use Rattle.framing.proofs.OneAnswer.{lays-one}
-use Rattle.phases.specs.Phases.{PppTurn}
+use Rattle.phases.specs.Phases.{Turn}
 use Rattle.link.specs.declared.refusal.Outcome.{Outcome}
 use Rattle.link.specs.declared.pppos.PPPoS.{PPPoS}
 use Rattle.link.specs.declared.pppos.PPPoSAction.{PPPoSAction}
 use Rattle.link.specs.Link.{Changes, Consumes, Poll, Polls, Sends}
 
-pub changes-one : {t : PppTurn} {r : FrameReader} {o₁ o₂ : Outcome} {l₁ l₂ : PPPoS}
+pub changes-one : {t : Turn} {r : FrameReader} {o₁ o₂ : Outcome} {l₁ l₂ : PPPoS}
     → Changes t r o₁ l₁ → Changes t r o₂ l₂ → (o₁ ≡ o₂) × (l₁ ≡ l₂)
 changes-one a b = (a .outcome ∙ sym (b .outcome), a .link ∙ sym (b .link))
 

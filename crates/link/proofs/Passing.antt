@@ -14,7 +14,7 @@ use Rattle.framing.specs.declared.refusal.Outcome as framed
 use Rattle.framing.specs.declared.frame_reader.FrameReader.{FrameReader}
 use Rattle.framing.proofs.OneAnswer.{outcomes-differ}
 use Rattle.options.specs.Refusal as refusals
-use Rattle.phases.specs.Phases.{PppTurn}
+use Rattle.phases.specs.Phases.{Turn}
 use Rattle.options.specs.declared.refusal.Outcome as negotiation
 use Rattle.link.specs.Refusal.{outcomeNumber}
 use Rattle.link.specs.declared.refusal.Outcome.{Outcome}
@@ -30,7 +30,7 @@ turned-number : (t : negotiation.Outcome) → outcomeNumber (outcomeOf t) ≡ re
 turned-number negotiation.the-variants.Done = refl
 turned-number (negotiation.the-variants.Refused why) = refl
 
-pub changes-passed : {t : PppTurn} {r : FrameReader} {p : negotiation.Outcome} {o : Outcome} {l : PPPoS}
+pub changes-passed : {t : Turn} {r : FrameReader} {p : negotiation.Outcome} {o : Outcome} {l : PPPoS}
     → o ≡ outcomeOf p → p ≡ t .outcome → l ≡ linkOf r (t .ppp) → Changes t r o l
 changes-passed {p = p} e f k =
     record { number = ap outcomeNumber e ∙ turned-number p ∙ ap refusals.outcomeNumber f; outcome = e ∙ ap outcomeOf f; link = k }

@@ -18,7 +18,7 @@ use Rattle.framing.specs.declared.frame_reader.FrameReader.{FrameReader}
 use Rattle.framing.specs.declared.frame_reader.Got.{Got}
 use Rattle.framing.specs.declared.frame_reader.Got.the-variants.{Packet, Refused, Nothing}
 use Rattle.framing.proofs.OneAnswer.{gots-differ}
-use Rattle.phases.specs.Phases.{PppTurn, restsOf, pollOf, turnOf, Turns}
+use Rattle.phases.specs.Phases.{Turn, restsOf, pollOf, turnOf, Turns}
 use Rattle.options.specs.declared.refusal.Refusal as negotiation
 use Rattle.options.specs.declared.refusal.Outcome as negotiated
 use Rattle.negotiation.specs.declared.replies.Replies.{Replies}
@@ -55,7 +55,7 @@ polls-of e =
 
 -- ---- a turn
 
-module _ (l : PPPoS) (r : FrameReader) (t : PppTurn) (tx rx : List ℕ) where
+module _ (l : PPPoS) (r : FrameReader) (t : Turn) (tx rx : List ℕ) where
   pub written-none : {a : PPPoSAction} {k : PPPoS} → leb (length (frames (t .sent))) (length tx) ≡ false → a ≡ Declined FramesFull → k ≡ l
       → polled a k tx rx ≡ written l r t tx rx
   written-none h ea ek = rw h (polled-as ea ek refl refl)
@@ -74,7 +74,7 @@ module _ (l : PPPoS) (r : FrameReader) (t : PppTurn) (tx rx : List ℕ) where
   answered-done e = ap (λ (o : negotiated.Outcome). byOutcome o l r t tx rx) e
 
 -- the code's turn is the one that phases promises
-pub turned-is : {turn : PppTurn} {t : Turned} → Turns turn (t .outcome) (t .echoed) (t .ppp) (t .replies) → asTurn t ≡ turn
+pub turned-is : {turn : Turn} {t : Turned} → Turns turn (t .outcome) (t .echoed) (t .ppp) (t .replies) → asTurn t ≡ turn
 turned-is {turn} h = rw (h .outcome, h .echoed, h .ppp, h .replies, contents-made (turn .sent)) refl
 
 -- where the phase step would do nothing, there is nothing to write
@@ -82,7 +82,7 @@ pub answered-rested : (l : PPPoS) (tx rx : List ℕ) → restsOf (l .ppp) ≡ tr
 unfolding answeredPoll frames
 answered-rested l tx rx e = rw (rests-still (l .ppp) e, le-leb 0 (length tx) (omega arith)) refl
 
-pub turns-short : {turn : PppTurn} {o : negotiated.Outcome} {e : Bool} {p : Ppp} {rs : Replies} {n : ℕ}
+pub turns-short : {turn : Turn} {o : negotiated.Outcome} {e : Bool} {p : Ppp} {rs : Replies} {n : ℕ}
     → Turns turn o e p rs → sending.Sends n (turn .sent) → n ≤ maxReplies → Short rs
 turns-short {turn} h s few = rw (h .replies) (short-made (turn .sent) (omega (arith, s .few)) (s .short))
 
@@ -167,7 +167,7 @@ module _ (l : PPPoS) (tx rx : List ℕ) where
 abbrev NotFull : Poll → Type 0
 NotFull p = p .action ≡ Declined FramesFull → ⊥
 
-answered-room : (l : PPPoS) (r : FrameReader) (t : PppTurn) (tx rx : List ℕ) → length (frames (t .sent)) ≤ length tx → NotFull (answeredPoll l r t tx rx)
+answered-room : (l : PPPoS) (r : FrameReader) (t : Turn) (tx rx : List ℕ) → length (frames (t .sent)) ≤ length tx → NotFull (answeredPoll l r t tx rx)
 unfolding answeredPoll
 answered-room l r t tx rx h = go (t .outcome)
   where

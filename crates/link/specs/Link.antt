@@ -13,7 +13,7 @@ use Rattle.framing.specs.declared.refusal.Refusal.the-variants as framing
 use Rattle.framing.specs.declared.refusal.Outcome as framed
 use Rattle.options.specs.Wire.{protocolIn}
 use Rattle.negotiation.specs.Replies.{contents}
-use Rattle.phases.specs.Phases.{PppTurn, pollOf, turnOf, openOf, newOf}
+use Rattle.phases.specs.Phases.{Turn, pollOf, turnOf, openOf, newOf}
 use Rattle.phases.specs.declared.ppp.Ppp.{Ppp}
 use Rattle.phases.specs.declared.ppp.Turned.{Turned}
 use Rattle.options.specs.declared.refusal.Outcome as negotiation
@@ -58,7 +58,7 @@ abbrev pub openLink : PPPoS → PPPoS
 openLink l = linkOf (l .«frame_reader») (openOf (l .ppp) .ppp)
 
 -- a call that changes the link: its refusal number, its outcome and the link
-pub record Changes (t : PppTurn) (r : FrameReader) (o : Outcome) (l : PPPoS) : Type 0 where
+pub record Changes (t : Turn) (r : FrameReader) (o : Outcome) (l : PPPoS) : Type 0 where
   pub number : outcomeNumber o ≡ refusals.outcomeNumber (t .outcome)
   pub outcome : o ≡ outcomeOf (t .outcome)
   pub link : l ≡ linkOf r (t .ppp)
@@ -101,22 +101,22 @@ abbrev pub echoedIn : Bool → List ℕ → List ℕ
 echoedIn e rx = cond e (set rx 3 10) rx
 
 -- all frames are written, or everything stays as it was
-abbrev pub written : PPPoS → FrameReader → PppTurn → List ℕ → List ℕ → Poll
+abbrev pub written : PPPoS → FrameReader → Turn → List ℕ → List ℕ → Poll
 written l r t tx rx =
     cond (leb (length (frames (t .sent))) (length tx))
     (record { action = sent (length (frames (t .sent))); link = linkOf r (t .ppp); tx = over (frames (t .sent)) tx; rx = echoedIn (t .echoed) rx })
     (declined FramesFull l tx rx)
 
 -- what negotiation's turn t comes to, with the reader r: a refused packet is dropped
-abbrev pub byOutcome : negotiation.Outcome → PPPoS → FrameReader → PppTurn → List ℕ → List ℕ → Poll
+abbrev pub byOutcome : negotiation.Outcome → PPPoS → FrameReader → Turn → List ℕ → List ℕ → Poll
 byOutcome negotiation.the-variants.Done l r t tx rx = written l r t tx rx
 byOutcome (negotiation.the-variants.Refused why) l r t tx rx = declined (Negotiation why) (linkOf r (l .ppp)) tx rx
 
-unfoldable pub answeredPoll : PPPoS → FrameReader → PppTurn → List ℕ → List ℕ → Poll
+unfoldable pub answeredPoll : PPPoS → FrameReader → Turn → List ℕ → List ℕ → Poll
 answeredPoll l r t tx rx = byOutcome (t .outcome) l r t tx rx
 
 -- a turn and a poll as the code holds them
-abbrev pub asTurn : Turned → PppTurn
+abbrev pub asTurn : Turned → Turn
 asTurn t = record { outcome = t .outcome; echoed = t .echoed; ppp = t .ppp; sent = contents (t .replies) }
 
 abbrev pub asPoll : Polled → List ℕ → List ℕ → Poll

@@ -11,7 +11,7 @@ use Rattle.laws.proofs.Cases.{by-test}
 use Rattle.framing.specs.Reader.{Held, held, step, full, fetched, packetOf}
 use Rattle.framing.specs.Heard.{fetchedIn}
 use Rattle.framing.specs.declared.frame_reader.FrameReader.{FrameReader}
-use Rattle.phases.specs.Phases.{PppTurn, pollOf, turnOf}
+use Rattle.phases.specs.Phases.{Turn, pollOf, turnOf}
 use Rattle.phases.specs.Sound.{Calm}
 use Rattle.phases.specs.declared.ppp.Ppp.{Ppp}
 use Rattle.options.specs.declared.refusal.Outcome.the-variants as negotiation
@@ -37,7 +37,7 @@ abbrev pub feed : End → ℕ → End
 feed e b = joined (e .link .ppp) (step (hold e) b)
 
 -- negotiation's turn on the packet that the reader holds
-abbrev pub turn : End → PppTurn
+abbrev pub turn : End → Turn
 turn e = turnOf (e .link .ppp) (packetOf (hold e))
 
 abbrev pub turnedEnd : End → End
@@ -94,8 +94,8 @@ abbrev pub fine : End → Outcome → ℕ → List ℕ → Answer
 fine e o n w = record { now = e; used = n; written = w; first = outcomeNumber o; polled = 0 }
 
 -- all frames are written from the front of the transmit buffer
-pub behind-turned : (l : PPPoS) (tx rx : List ℕ) (h : l .«frame_reader» .len ≤ length rx) (room : alwaysEnough ≤ length tx) (o : Outcome) (n : ℕ) (r : FrameReader) (t : PppTurn) → t .echoed ≡ false
-    → behind o n (hearing.turned l tx rx h room r t) ≡ fine (endOf (linkOf r (t .ppp)) rx) o n (frames (t .sent))
+pub behind-turned : (l : PPPoS) (tx rx : List ℕ) (h : l .«frame_reader» .len ≤ length rx) (room : alwaysEnough ≤ length tx) (o : Outcome) (n : ℕ) (r : FrameReader) (t : Turn) → t .echoed ≡ false
+    → behind o n (hearing.writtenPoll l tx rx h room r t) ≡ fine (endOf (linkOf r (t .ppp)) rx) o n (frames (t .sent))
 behind-turned l tx rx h room o n r t e =
     rw (e, sent-count (length (frames (t .sent))) .0, sent-count (length (frames (t .sent))) .1, take-append-seam) refl
 
@@ -107,7 +107,7 @@ module _ (e : End) (tx : List ℕ) (room : alwaysEnough ≤ length tx) (o : Outc
       let r = e .link .«frame_reader» in
       ap (behind o n) (hearing.poll-waits (e .link) tx (e .rx) (h .within) room (h .empty))
       ∙ behind-turned (e .link) tx (e .rx) (h .within) room o n r (pollOf (e .link .ppp)) refl
-      ∙ ap (λ (t : PppTurn). fine (endOf (linkOf r (t .ppp)) (e .rx)) o n (frames (t .sent))) (h .calm)
+      ∙ ap (λ (t : Turn). fine (endOf (linkOf r (t .ppp)) (e .rx)) o n (frames (t .sent))) (h .calm)
 
   -- where a frame waits its packet is answered, and h is what the reader holds then
   abbrev Replied : Held → Type 0

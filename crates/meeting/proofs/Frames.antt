@@ -16,7 +16,7 @@ use Rattle.framing.specs.Heard.{fetchedIn}
 use Rattle.framing.specs.Arrives.{Idle, Arrives}
 use Rattle.framing.proofs.Arrives.{idle-empty, arrives}
 use Rattle.framing.proofs.Reader.{Kept, step-kept}
-use Rattle.phases.specs.Phases.{PppTurn, pppTurned, turnOf}
+use Rattle.phases.specs.Phases.{Turn, turnTo, turnOf}
 use Rattle.phases.specs.Sound.{Calm}
 use Rattle.meeting.proofs.Says.{Self, Small, AtMostOne, Moves}
 use Rattle.phases.specs.declared.ppp.Ppp.{Ppp}
@@ -62,7 +62,7 @@ module _ {Q : End → End → List ℕ → List ℕ → Type 0} {s s′ : Ppp} {
   closes {h} a k e =
       let t = joined s (a .before) in
       let l = length (h .buf) in
-      let is : turn (feed t (a .last)) ≡ pppTurned s′ o = ap (turnOf s) (a .packet) ∙ m .is in
+      let is : turn (feed t (a .last)) ≡ turnTo s′ o = ap (turnOf s) (a .packet) ∙ m .is in
       let kept = step-kept l (a .before) (a .last) k in
       goes (joined s′ (fetchedIn (step (a .before) (a .last)))) (frames o) v f
       (record {
@@ -72,12 +72,12 @@ module _ {Q : End → End → List ℕ → List ℕ → Type 0} {s s′ : Ppp} {
               within = omega (arith, kept .room, kept .within);
               long = omega (arith, a .kept);
               calm = m .calm;
-              done = ap (λ (r : PppTurn). r .outcome) is;
-              plain = ap (λ (r : PppTurn). r .echoed) is;
+              done = ap (λ (r : Turn). r .outcome) is;
+              plain = ap (λ (r : Turn). r .echoed) is;
             };
       })
-      (stepped-full t (a .last) (a .filled) ∙ ap (λ (r : PppTurn). joined (r .ppp) (fetchedIn (step (a .before) (a .last)))) is)
-      (says-full t (a .last) (a .filled) ∙ ap (λ (r : PppTurn). frames (r .sent)) is) e
+      (stepped-full t (a .last) (a .filled) ∙ ap (λ (r : Turn). joined (r .ppp) (fetchedIn (step (a .before) (a .last)))) is)
+      (says-full t (a .last) (a .filled) ∙ ap (λ (r : Turn). frames (r .sent)) is) e
 
   pub lands : (h : Held) → Waits h → ((h′ : Held) → Waits h′ → Ends Q (joined s′ h′) b u (v ++ frames o) (f ++ frames o) g)
       → Ends Q (joined s h) b (frame everyByte x ++ u) v f g

@@ -8,7 +8,7 @@ use native.Mathlib.Omega.{arith}
 use lib.ListN.{length}
 use Rattle.laws.proofs.Cases.{cond-all}
 use Rattle.negotiation.specs.Credentials.{fitsCredentials}
-use Rattle.phases.specs.Phases.{PppTurn}
+use Rattle.phases.specs.Phases.{Turn}
 use Rattle.phases.specs.declared.ppp.Phase.the-variants.{Dead}
 use Rattle.link.specs.Link.{newLink}
 use Rattle.link.specs.Choices.{Plain}
@@ -25,7 +25,7 @@ pub data Fresh : End → Type 0 where
 pub fresh-ready : {x : End} → Fresh x → Ready x
 fresh-ready (made name password c p rx h) =
     record {
-      dead = cond-all (λ (t : PppTurn). t .ppp .phase ≡ Dead) (fitsCredentials (length name) (length password)) refl refl;
+      dead = cond-all (λ (t : Turn). t .ppp .phase ≡ Dead) (fitsCredentials (length name) (length password)) refl refl;
       choices = c;
       plain = p;
       reached = by-new name password;

@@ -14,7 +14,7 @@ use Rattle.options.specs.Reply.{listedOf, stepOf, replyOf}
 use Rattle.negotiation.specs.Messages.{nextId}
 use Rattle.negotiation.specs.Automaton.{requested, ackOf, reqWith, reqOf, nackWith, nackOf, termAckOf, ignoreOf, echoOf, actOf, handleOf, protocolRejectOf, openedFsm}
 use Rattle.negotiation.specs.Auth.{closedAuth}
-use Rattle.phases.specs.Phases.{pppTurned, rejectOf, receivedOf, establishOf, authOf, networkOf, phaseOf, openOf, pollOf, turnOf}
+use Rattle.phases.specs.Phases.{turnTo, rejectOf, receivedOf, establishOf, authOf, networkOf, phaseOf, openOf, pollOf, turnOf}
 use Rattle.phases.specs.Sound.{Calm}
 use Rattle.meeting.proofs.Says.{Self, selfOf, offer, heard, lcpPacket, hello, ask, grant, deny, lcpAt, ipAt, end, begun, greeted, net, Small, Moves}
 use Rattle.options.specs.declared.lcp.AuthType.the-variants.{None}
@@ -59,12 +59,12 @@ dead p =
     record { phase = Dead; opening = p .opening; lcp = record { id = p .lcp .id; state = Closed; proto = p .lcp .proto }; auth = p .auth; ipv4cp = p .ipv4cp }
 
 begins-dead : (p : Ppp) → pollOf (openOf (dead p) .ppp)
-    ≡ pppTurned (begun (selfOf p) (p .ipv4cp .proto .«dns_server_1» .«is_rejected») (p .ipv4cp .proto .«dns_server_2» .«is_rejected»)) (hello (selfOf p) ∷ [])
+    ≡ turnTo (begun (selfOf p) (p .ipv4cp .proto .«dns_server_1» .«is_rejected») (p .ipv4cp .proto .«dns_server_2» .«is_rejected»)) (hello (selfOf p) ∷ [])
 unfolding opened
 begins-dead p = refl
 
 pub begins : (p : Ppp) → p .phase ≡ Dead → p .lcp .state ≡ Closed → pollOf (openOf p .ppp)
-    ≡ pppTurned (begun (selfOf p) (p .ipv4cp .proto .«dns_server_1» .«is_rejected») (p .ipv4cp .proto .«dns_server_2» .«is_rejected»)) (hello (selfOf p) ∷ [])
+    ≡ turnTo (begun (selfOf p) (p .ipv4cp .proto .«dns_server_1» .«is_rejected») (p .ipv4cp .proto .«dns_server_2» .«is_rejected»)) (hello (selfOf p) ∷ [])
 begins p e f =
     let same : p ≡ dead p = λ i. record { phase = e i; opening = p .opening; lcp = record { id = p .lcp .id; state = f i; proto = p .lcp .proto }; auth = p .auth; ipv4cp = p .ipv4cp } in
     ap (λ (q : Ppp). pollOf (openOf q .ppp)) same ∙ begins-dead p
@@ -74,7 +74,7 @@ begins p e f =
 -- a request with the map v, or without one
 lcp-req : (X : Self) (m n : Bool) (i v : ℕ) (r : Bool)
     → turnOf (begun X m n) (packetOf 0xC021 1 i (offer 2 v r))
-    ≡ pppTurned (end X Establish (lcpAt X AckSent None (heard v r (X .remote))) (ipAt X (X .ipId) Closed (X .peer) m n)) (packetOf 0xC021 2 i (offer 2 v r) ∷ [])
+    ≡ turnTo (end X Establish (lcpAt X AckSent None (heard v r (X .remote))) (ipAt X (X .ipId) Closed (X .peer) m n)) (packetOf 0xC021 2 i (offer 2 v r) ∷ [])
 unfolding opened
 lcp-req X m n i v true = refl
 lcp-req X m n i v false = refl
@@ -89,7 +89,7 @@ greeted-calm X Y m n = refl
 
 -- an acknowledgement opens LCP, and IPv4CP asks
 lcp-ack : (X Y : Self) (m n : Bool) (i v : ℕ) (r : Bool)
-    → turnOf (greeted X Y m n) (packetOf 0xC021 2 i (offer 2 v r)) ≡ pppTurned (net X Y Network (nextId (X .ipId)) ReqSent (X .peer) m n) (ask (nextId (X .ipId)) X m n ∷ [])
+    → turnOf (greeted X Y m n) (packetOf 0xC021 2 i (offer 2 v r)) ≡ turnTo (net X Y Network (nextId (X .ipId)) ReqSent (X .peer) m n) (ask (nextId (X .ipId)) X m n ∷ [])
 unfolding opened
 lcp-ack X Y m n i v true = refl
 lcp-ack X Y m n i v false = refl
@@ -136,14 +136,14 @@ module _ (X Y : Self) (k p : ℕ) (m n : Bool) where
   -- a request for the address alone, or for nothing
   ip-clean : (i a d e : ℕ) (r : Bool)
       → turnOf (net X Y Network k ReqSent p m n) (packetOf 0x8021 1 i (offer 3 a r ++ (offer 129 d true ++ offer 131 e true)))
-      ≡ pppTurned (net X Y Network k AckSent (heard a r p) m n) (packetOf 0x8021 2 i (offer 3 a r ++ (offer 129 d true ++ offer 131 e true)) ∷ [])
+      ≡ turnTo (net X Y Network k AckSent (heard a r p) m n) (packetOf 0x8021 2 i (offer 3 a r ++ (offer 129 d true ++ offer 131 e true)) ∷ [])
   unfolding opened
   ip-clean i a d e true = refl
   ip-clean i a d e false = refl
 
   ip-clean-last : (i a d e : ℕ) (r : Bool)
       → turnOf (net X Y Network k AckReceived p m n) (packetOf 0x8021 1 i (offer 3 a r ++ (offer 129 d true ++ offer 131 e true)))
-      ≡ pppTurned (net X Y Open k Opened (heard a r p) m n) (packetOf 0x8021 2 i (offer 3 a r ++ (offer 129 d true ++ offer 131 e true)) ∷ [])
+      ≡ turnTo (net X Y Open k Opened (heard a r p) m n) (packetOf 0x8021 2 i (offer 3 a r ++ (offer 129 d true ++ offer 131 e true)) ∷ [])
   unfolding opened
   ip-clean-last i a d e true = refl
   ip-clean-last i a d e false = refl
@@ -151,7 +151,7 @@ module _ (X Y : Self) (k p : ℕ) (m n : Bool) where
   -- a request with a name server gets a Rej of those
   ip-dns : (i a d e : ℕ) (r m′ n′ : Bool) → m′ && n′ ≡ false
       → turnOf (net X Y Network k ReqSent p m n) (packetOf 0x8021 1 i (offer 3 a r ++ (offer 129 d m′ ++ offer 131 e n′)))
-      ≡ pppTurned (net X Y Network k ReqSent (heard a r p) m n) (packetOf 0x8021 4 i (offer 129 d m′ ++ offer 131 e n′) ∷ [])
+      ≡ turnTo (net X Y Network k ReqSent (heard a r p) m n) (packetOf 0x8021 4 i (offer 129 d m′ ++ offer 131 e n′) ∷ [])
   unfolding opened
   ip-dns i a d e true true true h = absurd (true≢false h)
   ip-dns i a d e true true false h = refl
@@ -163,20 +163,20 @@ module _ (X Y : Self) (k p : ℕ) (m n : Bool) where
   ip-dns i a d e false false false h = refl
 
   ip-ack : (i a d e : ℕ) (r : Bool)
-      → turnOf (net X Y Network k ReqSent p m n) (packetOf 0x8021 2 i (offer 3 a r ++ (offer 129 d true ++ offer 131 e true))) ≡ pppTurned (net X Y Network k AckReceived p m n) []
+      → turnOf (net X Y Network k ReqSent p m n) (packetOf 0x8021 2 i (offer 3 a r ++ (offer 129 d true ++ offer 131 e true))) ≡ turnTo (net X Y Network k AckReceived p m n) []
   unfolding opened
   ip-ack i a d e true = refl
   ip-ack i a d e false = refl
 
   ip-ack-last : (i a d e : ℕ) (r : Bool)
-      → turnOf (net X Y Network k AckSent p m n) (packetOf 0x8021 2 i (offer 3 a r ++ (offer 129 d true ++ offer 131 e true))) ≡ pppTurned (net X Y Open k Opened p m n) []
+      → turnOf (net X Y Network k AckSent p m n) (packetOf 0x8021 2 i (offer 3 a r ++ (offer 129 d true ++ offer 131 e true))) ≡ turnTo (net X Y Open k Opened p m n) []
   unfolding opened
   ip-ack-last i a d e true = refl
   ip-ack-last i a d e false = refl
 
 -- a Rej of the own name servers: they are dropped, and a request without them follows
 ip-rej : (X Y : Self) (k p i : ℕ) (m n : Bool) → m && n ≡ false
-    → turnOf (net X Y Network k ReqSent p m n) (deny i X m n) ≡ pppTurned (net X Y Network (nextId k) ReqSent p true true) (ask (nextId k) X true true ∷ [])
+    → turnOf (net X Y Network k ReqSent p m n) (deny i X m n) ≡ turnTo (net X Y Network (nextId k) ReqSent p true true) (ask (nextId k) X true true ∷ [])
 unfolding opened
 ip-rej X Y k p i true true h = absurd (true≢false h)
 ip-rej X Y k p i true false h = refl
@@ -184,7 +184,7 @@ ip-rej X Y k p i false true h = refl
 ip-rej X Y k p i false false h = refl
 
 ip-rej-acked : (X Y : Self) (k p i : ℕ) (m n : Bool) → m && n ≡ false
-    → turnOf (net X Y Network k AckSent p m n) (deny i X m n) ≡ pppTurned (net X Y Network (nextId k) AckSent p true true) (ask (nextId k) X true true ∷ [])
+    → turnOf (net X Y Network k AckSent p m n) (deny i X m n) ≡ turnTo (net X Y Network (nextId k) AckSent p true true) (ask (nextId k) X true true ∷ [])
 unfolding opened
 ip-rej-acked X Y k p i true true h = absurd (true≢false h)
 ip-rej-acked X Y k p i true false h = refl

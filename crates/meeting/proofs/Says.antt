@@ -10,7 +10,7 @@ use Rattle.options.specs.Options.{optBytes}
 use Rattle.options.specs.Wire.{packetOf}
 use Rattle.negotiation.specs.Messages.{nextId}
 use Rattle.negotiation.specs.Auth.{closedAuth}
-use Rattle.phases.specs.Phases.{pppTurned, turnOf}
+use Rattle.phases.specs.Phases.{turnTo, turnOf}
 use Rattle.phases.specs.Sound.{Calm}
 use Rattle.options.specs.declared.lcp.AuthType.{AuthType}
 use Rattle.options.specs.declared.lcp.AuthType.the-variants.{None}
@@ -133,4 +133,4 @@ pub record Moves (s : Ppp) (x : List ℕ) (s′ : Ppp) (o : List (List ℕ)) : T
   pub calm : Calm s
   pub small : Small x
   pub few : AtMostOne o
-  pub is : turnOf s x ≡ pppTurned s′ o
+  pub is : turnOf s x ≡ turnTo s′ o

@@ -7,7 +7,7 @@ use Prim.Native.Nat.{ℕ, _≤_}
 use native.Mathlib.Omega.{arith}
 use lib.ListN.{length}
 use Rattle.framing.proofs.Arrives.{idle-empty}
-use Rattle.phases.specs.Phases.{PppTurn, openOf, pollOf}
+use Rattle.phases.specs.Phases.{Turn, openOf, pollOf}
 use Rattle.meeting.proofs.Says as moves
 use Rattle.meeting.proofs.Says.{Self, selfOf, hello}
 use Rattle.negotiation.specs.declared.states.State.the-variants.{Closed}
@@ -47,5 +47,5 @@ opened {x} h closed tx room =
     let o = outcomeOf (openOf (l .ppp) .outcome) in
     ap (behind o 0) (poll-waits (openLink l) tx (x .rx) within room (idle-empty (waits h .idle)))
     ∙ behind-turned (openLink l) tx (x .rx) within room o 0 r (pollOf (openOf (l .ppp) .ppp)) refl
-    ∙ ap (λ (t : PppTurn). fine (endOf (linkOf r (t .ppp)) (x .rx)) o 0 (frames (t .sent))) (begins (l .ppp) (h .dead) closed)
+    ∙ ap (λ (t : Turn). fine (endOf (linkOf r (t .ppp)) (x .rx)) o 0 (frames (t .sent))) (begins (l .ppp) (h .dead) closed)
     ∙ rw (h .dead) refl

@@ -14,7 +14,7 @@ use Rattle.negotiation.specs.declared.pap.Pap.{Pap}
 use Rattle.negotiation.specs.declared.pap.PapState.{PapState}
 use Rattle.negotiation.specs.declared.pap.PapState.the-variants.{Closed, ReqSent, Opened}
 use Rattle.negotiation.specs.declared.auth.Auth.{Auth}
-use Rattle.negotiation.specs.Pap.{isPapClosed, isPapSent, isPapOpened, withPapState, PapTurn, papRequested, papActOf, papHandleOf, openedPap}
+use Rattle.negotiation.specs.Pap.{isPapClosed, isPapSent, isPapOpened, withPapState, PapReaction, papRequested, papActOf, papHandleOf, openedPap}
 use Rattle.negotiation.specs.Auth.{authAfter, isAuthClosed, isAuthSent, isAuthOpened, authHandleOf, openedAuth, closedAuth}
 use Rattle.negotiation.proofs.Sends.{Sends, pap-sends, pap-opened-sends}
 
@@ -90,7 +90,7 @@ PapNear s t = (t ≡ s) ⊎ ((s ≡ ReqSent) × (t ≡ Opened))
 pap-near : (c : Credentials) (p : Pap) (pkt : List ℕ) → PapNear (p .state) (papHandleOf c p pkt .pap .state)
 unfolding papHandleOf papActOf papRequested
 pap-near c p pkt =
-    let P : PapTurn → Type 0 = λ t. PapNear (p .state) (t .pap .state) in
+    let P : PapReaction → Type 0 = λ t. PapNear (p .state) (t .pap .state) in
     let code = getD pkt 2 0 in
     let s = isPapSent (p .state) in
     cond-all P (ltb (length pkt) 6) (inl refl)

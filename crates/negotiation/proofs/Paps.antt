@@ -11,7 +11,7 @@ use Rattle.negotiation.specs.declared.credentials.Credentials.{Credentia
 use Rattle.negotiation.specs.declared.pap.Pap.{Pap}
 use Rattle.negotiation.specs.declared.pap.PapState.the-variants.{Opened}
 use Rattle.negotiation.specs.Messages.{nextId}
-use Rattle.negotiation.specs.Pap.{credentialBytes, papBytes, isPapSent, papActOf, papTurned, papRequested, withPapState}
+use Rattle.negotiation.specs.Pap.{credentialBytes, papBytes, isPapSent, papActOf, papReacts, papRequested, withPapState}
 use Rattle.negotiation.specs.Credentials.{nameOf, passwordOf}
 use Rattle.negotiation.proofs.CredentialLaws.{credentials-short}
 use Rattle.options.specs.declared.wire.Packet.{Packet}
@@ -44,11 +44,11 @@ pap-short c p =
 -- ---- a step, by cases
 
 module _ (c : Credentials) (p : Pap) (code : ℕ) where
-  pub act-idle : isPapSent (p .state) ≡ false → papActOf c p code ≡ papTurned p []
+  pub act-idle : isPapSent (p .state) ≡ false → papActOf c p code ≡ papReacts p []
   unfolding papActOf
   act-idle e = rw e refl
 
-  pub act-ack : isPapSent (p .state) ≡ true → code ≡ 2 → papActOf c p code ≡ papTurned (withPapState p Opened) []
+  pub act-ack : isPapSent (p .state) ≡ true → code ≡ 2 → papActOf c p code ≡ papReacts (withPapState p Opened) []
   unfolding papActOf
   act-ack e f = rw (e, eq-eqb code 2 f) refl
 
@@ -56,6 +56,6 @@ module _ (c : Credentials) (p : Pap) (code : ℕ) where
   unfolding papActOf
   act-nack e f = rw (e, f) refl
 
-  pub act-other : isPapSent (p .state) ≡ true → (code ≡ 2 → ⊥) → (code ≡ 3 → ⊥) → papActOf c p code ≡ papTurned p []
+  pub act-other : isPapSent (p .state) ≡ true → (code ≡ 2 → ⊥) → (code ≡ 3 → ⊥) → papActOf c p code ≡ papReacts p []
   unfolding papActOf
   act-other e f g = rw (e, ne-eqb code 2 f, ne-eqb code 3 g) refl

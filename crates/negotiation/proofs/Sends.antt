@@ -15,7 +15,7 @@ use Rattle.negotiation.specs.declared.pap.Pap.{Pap}
 use Rattle.negotiation.specs.declared.pap.PapState.the-variants.{ReqSent}
 use Rattle.options.specs.Wire.{maxPacket, lengthField}
 use Rattle.negotiation.specs.Automaton.{handleOf, protocolRejectOf, openedFsm}
-use Rattle.negotiation.specs.Pap.{isPapSent, withPapState, PapTurn, papBytes, papRequested, papActOf, papHandleOf, openedPap}
+use Rattle.negotiation.specs.Pap.{isPapSent, withPapState, PapReaction, papBytes, papRequested, papActOf, papHandleOf, openedPap}
 use Rattle.options.proofs.Fair.{Short}
 use Rattle.negotiation.proofs.Proper.{proper-handle, proper-reject, proper-opened, opened-one}
 use Rattle.negotiation.proofs.Paps.{pap-short}
@@ -48,7 +48,7 @@ module _ (c : Credentials) (p : Pap) where
   pub pap-sends : (pkt : List ℕ) → Sends 2 (papHandleOf c p pkt .sent)
   unfolding papHandleOf papActOf papRequested
   pap-sends pkt =
-      let P : PapTurn → Type 0 = λ t. Sends 2 (t .sent) in
+      let P : PapReaction → Type 0 = λ t. Sends 2 (t .sent) in
       let none = sends-none 2 in
       let code = getD pkt 2 0 in
       let s = isPapSent (p .state) in

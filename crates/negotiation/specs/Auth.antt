@@ -3,7 +3,7 @@ use mathlib.Core.Bool.{Bool}
 use mathlib.Core.List.{List}
 use Prim.Native.Nat.{ℕ}
 use Rattle.negotiation.specs.Replies.{repliesOf}
-use Rattle.negotiation.specs.Pap.{isPapClosed, isPapSent, isPapOpened, freshPap, withPapState, PapTurn, papHandleOf, openedPap}
+use Rattle.negotiation.specs.Pap.{isPapClosed, isPapSent, isPapOpened, freshPap, withPapState, PapReaction, papHandleOf, openedPap}
 use Rattle.options.specs.declared.refusal.Outcome.{Outcome}
 use Rattle.negotiation.specs.declared.credentials.Credentials.{Credentials}
 use Rattle.negotiation.specs.declared.pap.Pap.{Pap}
@@ -33,16 +33,16 @@ isAuthOpened a = isPapOpened (a .pap .state)
 
 -- ---- a step
 
-pub record AuthTurn : Type 0 where
+pub record AuthReaction : Type 0 where
   pub outcome : Outcome
   pub auth : Auth
   pub sent : List (List ℕ)
 
-abbrev pub authHandled : AuthTurn → AuthHandled
+abbrev pub authHandled : AuthReaction → AuthHandled
 authHandled t = record { outcome = t .outcome; auth = t .auth; replies = repliesOf (t .sent) }
 
 -- by a step of PAP
-abbrev pub byPap : Auth → PapTurn → AuthTurn
+abbrev pub byPap : Auth → PapReaction → AuthReaction
 byPap a t = record { outcome = t .outcome; auth = authAfter a (t .pap); sent = t .sent }
 
 -- as the code holds it
@@ -50,11 +50,11 @@ abbrev pub papTaken : Auth → PapHandled → AuthHandled
 papTaken a h = record { outcome = h .outcome; auth = authAfter a (h .pap); replies = h .replies }
 
 -- a received packet of protocol C023
-unfoldable pub authHandleOf : Auth → List ℕ → AuthTurn
+unfoldable pub authHandleOf : Auth → List ℕ → AuthReaction
 authHandleOf a pkt = byPap a (papHandleOf (a .credentials) (a .pap) pkt)
 
 -- whatever the state was
-unfoldable pub openedAuth : Auth → AuthTurn
+unfoldable pub openedAuth : Auth → AuthReaction
 openedAuth a = byPap a (openedPap (a .credentials) (a .pap))
 
 unfoldable pub closedAuth : Auth → Auth

@@ -52,38 +52,38 @@ steppedPap p = record { state = p .state; id = nextId (p .id) }
 
 -- ---- a step
 
-pub record PapTurn : Type 0 where
+pub record PapReaction : Type 0 where
   pub outcome : Outcome
   pub pap : Pap
   pub sent : List (List ℕ)
 
-abbrev pub papHandled : PapTurn → PapHandled
+abbrev pub papHandled : PapReaction → PapHandled
 papHandled t = record { outcome = t .outcome; pap = t .pap; replies = repliesOf (t .sent) }
 
-abbrev pub papTurned : Pap → List (List ℕ) → PapTurn
-papTurned p ps = record { outcome = Done; pap = p; sent = ps }
+abbrev pub papReacts : Pap → List (List ℕ) → PapReaction
+papReacts p ps = record { outcome = Done; pap = p; sent = ps }
 
-unfoldable pub papRequested : Credentials → Pap → PapTurn
-papRequested c p = papTurned (steppedPap p) (papBytes c p ∷ [])
+unfoldable pub papRequested : Credentials → Pap → PapReaction
+papRequested c p = papReacts (steppedPap p) (papBytes c p ∷ [])
 
 -- in ReqSent an Ack opens and a Nack sends again; ids are not compared
-unfoldable pub papActOf : Credentials → Pap → ℕ → PapTurn
+unfoldable pub papActOf : Credentials → Pap → ℕ → PapReaction
 papActOf c p code =
     cond (isPapSent (p .state) && eqb code 2)
-    (papTurned (withPapState p Opened) [])
-    (cond (isPapSent (p .state) && eqb code 3) (papRequested c p) (papTurned p []))
+    (papReacts (withPapState p Opened) [])
+    (cond (isPapSent (p .state) && eqb code 3) (papRequested c p) (papReacts p []))
 
 -- under 6 bytes, or Length above the packet: ignored; Length + 2 above it: refused
-unfoldable pub papHandleOf : Credentials → Pap → List ℕ → PapTurn
+unfoldable pub papHandleOf : Credentials → Pap → List ℕ → PapReaction
 papHandleOf c p pkt =
     cond (ltb (length pkt) 6)
-    (papTurned p [])
+    (papReacts p [])
     (cond (ltb (length pkt) (lengthField pkt))
-    (papTurned p [])
+    (papReacts p [])
     (cond (ltb (length pkt) (lengthField pkt + 2))
     (record { outcome = Refused PapPast; pap = p; sent = [] })
     (papActOf c p (getD pkt 2 0))))
 
 -- whatever the state was
-unfoldable pub openedPap : Credentials → Pap → PapTurn
+unfoldable pub openedPap : Credentials → Pap → PapReaction
 openedPap c p = papRequested c (withPapState p ReqSent)

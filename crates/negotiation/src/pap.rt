@@ -4,7 +4,7 @@ ghost use mathlib.Core.List.{[]};
 ghost use Prim.Native.Nat.{_+_, _≤_};
 ghost use lib.ListN.{length};
 ghost use Rattle.options.specs.Wire.{pktOf, packetOf};
-ghost use Rattle.negotiation.specs.Pap.{isPapSent, isPapOpened, freshPap, credentialBytes, papBytes, withPapState, steppedPap, papHandled, papTurned, papRequested, papActOf, papHandleOf, openedPap, isPapClosed};
+ghost use Rattle.negotiation.specs.Pap.{isPapSent, isPapOpened, freshPap, credentialBytes, papBytes, withPapState, steppedPap, papHandled, papReacts, papRequested, papActOf, papHandleOf, openedPap, isPapClosed};
 use crate::messages::next_id;
 ghost use Rattle.negotiation.specs.Credentials.{maxCredentials};
 use crate::credentials::Credentials;
@@ -115,7 +115,7 @@ impl Pap {
     }
 
     fn ignore(self) -> PapHandled
-        ensures { λ h. ⌜ h ≡ papHandled (papTurned self []) ⌝ }
+        ensures { λ h. ⌜ h ≡ papHandled (papReacts self []) ⌝ }
     {
         PapHandled {
             outcome: Outcome::Done,

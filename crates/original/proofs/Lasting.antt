@@ -23,7 +23,7 @@ use Rattle.negotiation.specs.Automaton.{isClosed, isOpened}
 use Rattle.negotiation.specs.Credentials.{maxCredentials, fitsCredentials}
 use Rattle.negotiation.specs.Auth.{isAuthOpened, authHandleOf, openedAuth, closedAuth}
 use Rattle.negotiation.proofs.CredentialLaws.{fits-sum}
-use Rattle.phases.specs.Phases.{freshPpp, withPhase, withOpening, PppTurn, Step, rejectOf, receivedOf, byAuth, establishOf, authOf, networkOf, byPhase, diesOf, settled, phaseOf, pollOf, turnOf, isDead, newOf}
+use Rattle.phases.specs.Phases.{freshPpp, withPhase, withOpening, Turn, Step, rejectOf, receivedOf, byAuth, establishOf, authOf, networkOf, byPhase, diesOf, settled, phaseOf, pollOf, turnOf, isDead, newOf}
 use Rattle.phases.specs.declared.ppp.Phase.{Phase}
 use Rattle.phases.specs.declared.ppp.Phase.the-variants.{Dead, Establish, Auth, Network, Open}
 use Rattle.phases.specs.declared.ppp.Ppp.{Ppp}
@@ -50,7 +50,7 @@ module _ (P : PPPoS → Type 0) (fetch : (r : FrameReader) (p : Ppp) → P (link
   turn-lasts : (r : FrameReader) (p : Ppp) (pkt : List ℕ) → Bytes pkt → isIp pkt ≡ false → P (linkOf r p) → P (linkOf r (turnOf p pkt .ppp))
   unfolding turnOf
   turn-lasts r p pkt bytes other k =
-      cond-by (λ (t : PppTurn). P (linkOf r (t .ppp))) (isDone (receivedOf p pkt .outcome))
+      cond-by (λ (t : Turn). P (linkOf r (t .ppp))) (isDone (receivedOf p pkt .outcome))
       (λ done. step r (receivedOf p pkt .ppp) (hear r p pkt bytes other done k)) (λ _. k)
 
   poll-lasts : (l : PPPoS) (tx rx : List ℕ) → Bytes rx → P l → P (pollLink l tx rx .link)
@@ -67,14 +67,14 @@ module _ (P : PPPoS → Type 0) (fetch : (r : FrameReader) (p : Ppp) → P (link
   lasts-by fresh opened fed =
       record {
         new = λ name password c _ _ b d x. rw (x .link) (made name password c b d);
-        «open» = λ l k x. rw (x .link) (cond-all (λ (t : PppTurn). P (linkOf (l .«frame_reader») (t .ppp))) (isDead (l .ppp .phase)) (opened (l .«frame_reader») (l .ppp) k) k);
+        «open» = λ l k x. rw (x .link) (cond-all (λ (t : Turn). P (linkOf (l .«frame_reader») (t .ppp))) (isDead (l .ppp .phase)) (opened (l .«frame_reader») (l .ppp) k) k);
         consume = λ l rx bs k x. rw (x .link) (fed l rx bs k);
         poll = λ l tx rx b k x. rw (x .link) (poll-lasts l tx rx b k);
       }
     where
       made : (name password : List ℕ) (c : Choices) → Bytes name → Bytes password → P (linkOf (reader.freshReader (c .reading)) (newOf name password .ppp))
       made name password c b d =
-          cond-by (λ (t : PppTurn). P (linkOf (reader.freshReader (c .reading)) (t .ppp))) (fitsCredentials (length name) (length password))
+          cond-by (λ (t : Turn). P (linkOf (reader.freshReader (c .reading)) (t .ppp))) (fitsCredentials (length name) (length password))
           (λ t. fresh name password c b d (fits-sum (length name) (length password) t))
           (λ _. fresh [] [] c tt tt (lit≤ tt))
 
@@ -84,7 +84,7 @@ module _ (P : PPPoS → Type 0) (fetch : (r : FrameReader) (p : Ppp) → P (link
 received-fit : (p : Ppp) (pkt : List ℕ) → CredentialsFit (p .auth .credentials) → CredentialsFit (receivedOf p pkt .ppp .auth .credentials)
 unfolding receivedOf rejectOf authHandleOf
 received-fit p pkt w =
-    let P : PppTurn → Type 0 = λ t. CredentialsFit (t .ppp .auth .credentials) in
+    let P : Turn → Type 0 = λ t. CredentialsFit (t .ppp .auth .credentials) in
     let n = protocolIn pkt in
     cond-all P (ltb (length pkt) 2) w
     (cond-all P (eqb n 0xC021) w (cond-all P (eqb n 0xC023) w (cond-all P (eqb n 0x0021) w (cond-all P (eqb n 0x8021) w w))))

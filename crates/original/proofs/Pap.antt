@@ -12,7 +12,7 @@ use Rattle.laws.specs.Each.{Bytes}
 use Rattle.laws.proofs.Cases.{cond-both}
 use Rattle.negotiation.specs.Credentials.{nameLen, passwordLen, nameOf, passwordOf}
 use Rattle.negotiation.specs.Pap as ours
-use Rattle.negotiation.specs.Auth.{authAfter, AuthTurn, byPap, authHandleOf}
+use Rattle.negotiation.specs.Auth.{authAfter, AuthReaction, byPap, authHandleOf}
 use Rattle.options.specs.Wire.{lengthField}
 use Rattle.options.specs.declared.refusal.Refusal.the-variants.{PapPast}
 use Rattle.options.specs.declared.refusal.Outcome.the-variants.{Done}
@@ -36,9 +36,9 @@ pub record Held (a : auth.Auth) : Type 0 where
   pub bytes : Bytes (a .credentials .bytes)
 
 -- both leave the same and send the same, or the original panics where ours refuses
-pub data SamePap : Run theirs.PapHandled → AuthTurn → Type 0 where
-  same : {h : theirs.PapHandled} {t : AuthTurn} → h .pap ≡ viewPap (t .auth) → Held (t .auth) → t .outcome ≡ Done → Carried (h .tx) (t .sent) → SamePap (returns h) t
-  stops : {p : Place} {t : AuthTurn} → RefusedAt p (t .outcome) → SamePap (panics p) t
+pub data SamePap : Run theirs.PapHandled → AuthReaction → Type 0 where
+  same : {h : theirs.PapHandled} {t : AuthReaction} → h .pap ≡ viewPap (t .auth) → Held (t .auth) → t .outcome ≡ Done → Carried (h .tx) (t .sent) → SamePap (returns h) t
+  stops : {p : Place} {t : AuthReaction} → RefusedAt p (t .outcome) → SamePap (panics p) t
 
 sent-is : (s : papState.PapState) → theirs.isPapSent (viewPapState s) ≡ ours.isPapSent s
 sent-is papState.the-variants.Closed = refl
@@ -78,7 +78,7 @@ module _ (u : auth.Auth) (held : Held u) where
       (go (ours.isPapSent (u .pap .state)) (eqb c 2) (eqb c 3))
     where
       go : (s a b : Bool) → SamePap (returns (cond (a && s) (record { pap = theirs.withPapState (viewPap u) theirs.PapOpened; tx = [] }) (cond (b && s) (theirs.sendPapRequest (viewPap u)) (record { pap = viewPap u; tx = [] }))))
-          (byPap u (cond (s && a) (ours.papTurned (ours.withPapState (u .pap) papState.the-variants.Opened) []) (cond (s && b) (ours.papRequested (u .credentials) (u .pap)) (ours.papTurned (u .pap) []))))
+          (byPap u (cond (s && a) (ours.papReacts (ours.withPapState (u .pap) papState.the-variants.Opened) []) (cond (s && b) (ours.papRequested (u .credentials) (u .pap)) (ours.papReacts (u .pap) []))))
       go true true b = same refl (record { id = held .id; bytes = held .bytes }) refl none
       go true false true = request-same
       go true false false = same refl held refl none
@@ -90,7 +90,7 @@ module _ (u : auth.Auth) (held : Held u) where
   pub pap-same : (pkt : List ℕ) → SamePap (theirs.handlePap (viewPap u) pkt) (authHandleOf u pkt)
   unfolding theirs.handlePap authHandleOf ours.papHandleOf
   pap-same pkt =
-      let P : Run theirs.PapHandled → ours.PapTurn → Type 0 = λ x t. SamePap x (byPap u t) in
+      let P : Run theirs.PapHandled → ours.PapReaction → Type 0 = λ x t. SamePap x (byPap u t) in
       cond-both P {t = ltb (length pkt) 6} refl (λ _. same refl held refl none)
       (λ _. cond-both P {t = ltb (length pkt) (lengthField pkt)} refl (λ _. same refl held refl none)
       (λ _. cond-both P {t = ltb (length pkt) (lengthField pkt + 2)} refl (λ _. stops (refused-at PapPast refl))

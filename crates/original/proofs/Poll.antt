@@ -13,7 +13,7 @@ use Rattle.laws.proofs.Cases.{by-le, by-test}
 use Rattle.laws.proofs.Stores.{sets-append, sets-front}
 use Rattle.framing.specs.declared.frame_reader.Reading.the-variants.{Crate}
 use Rattle.framing.specs.declared.frame_reader.FrameReader.{FrameReader}
-use Rattle.phases.specs.Phases.{PppTurn, phaseOf}
+use Rattle.phases.specs.Phases.{Turn, phaseOf}
 use Rattle.options.specs.declared.refusal.Outcome.the-variants.{Done}
 use Rattle.phases.specs.declared.ppp.Ppp.{Ppp}
 use Rattle.phases.proofs.Phasing.{phase-sends}
@@ -51,7 +51,7 @@ rest-stops m w b e = rw e refl
 
 -- the frames of pre are written; q is the record before the phase step, and r the reader
 module _ (l : PPPoS) (tx rx : List ℕ) (r : FrameReader) (q : Ppp) (held : Held q) (ready : (k : Choices) → Reached k l → Ready q) (pre : List (List ℕ)) (e : Bool) (c : ℕ) (fits : length (frames pre) ≤ length tx) (crate : r .reading ≡ Crate) where
-  abbrev turn : PppTurn
+  abbrev turn : Turn
   turn = record { outcome = Done; echoed = e; ppp = phaseOf q .ppp; sent = pre ++ phaseOf q .sent }
 
   abbrev w : FrameWriter

@@ -16,7 +16,7 @@ use Rattle.framing.specs.Reader.{fetched}
 use Rattle.framing.specs.declared.frame_reader.Reading.the-variants.{Crate}
 use Rattle.framing.specs.declared.frame_reader.FrameReader.{FrameReader}
 use Rattle.options.specs.Wire.{maxPacket, protocolIn}
-use Rattle.phases.specs.Phases.{PppTurn, phaseOf, turnOf, receivedOf}
+use Rattle.phases.specs.Phases.{Turn, phaseOf, turnOf, receivedOf}
 use Rattle.options.specs.declared.refusal.Refusal.{Refusal}
 use Rattle.options.specs.declared.refusal.Refusal.the-variants.{ReplyLong}
 use Rattle.options.specs.declared.refusal.Outcome.the-variants.{Done, Refused}
@@ -81,7 +81,7 @@ module _ (l : PPPoS) (tx rx : List ℕ) (held : received.Held (l .ppp)) (bytes :
     abbrev pkt : List ℕ
     pkt = take (to - 1) (drop 1 rx)
 
-    abbrev t : PppTurn
+    abbrev t : Turn
     t = receivedOf (l .ppp) pkt
 
     abbrev Goal : Type 0

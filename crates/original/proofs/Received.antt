@@ -13,10 +13,10 @@ use Rattle.laws.specs.Each.{Bytes}
 use Rattle.laws.proofs.Cases.{by-test, cond-both}
 use Rattle.negotiation.specs.Messages.{maxRejected, nextId}
 use Rattle.negotiation.specs.Automaton as ours
-use Rattle.negotiation.specs.Auth.{AuthTurn}
+use Rattle.negotiation.specs.Auth.{AuthReaction}
 use Rattle.options.specs.Wire.{maxPacket, protocolIn}
 use Rattle.negotiation.specs.Automaton.{protocolRejectOf}
-use Rattle.phases.specs.Phases.{PppTurn, lcpTurn, ipv4cpTurn, rejectOf, receivedOf, authTurn}
+use Rattle.phases.specs.Phases.{Turn, fromLcp, fromIpv4cp, rejectOf, receivedOf, fromAuth}
 use Rattle.options.specs.declared.refusal.Refusal.the-variants.{ReplyLong}
 use Rattle.options.specs.declared.refusal.Outcome.the-variants.{Done, Refused}
 use Rattle.options.specs.declared.proto.Proto.the-variants as proto
@@ -42,29 +42,29 @@ pub record Held (p : ppp.Ppp) : Type 0 where
   pub auth : pap.Held (p .auth)
 
 -- both leave the same and send the same; or the original gives a packet above 128 bytes, or panics, where ours refuses
-pub data SameReceived (pkt : List ℕ) : Run theirs.Received → PppTurn → Type 0 where
-  same : {r : theirs.Received} {t : PppTurn} → r .ppp ≡ viewPpp (t .ppp) → Held (t .ppp) → t .outcome ≡ Done
+pub data SameReceived (pkt : List ℕ) : Run theirs.Received → Turn → Type 0 where
+  same : {r : theirs.Received} {t : Turn} → r .ppp ≡ viewPpp (t .ppp) → Held (t .ppp) → t .outcome ≡ Done
       → r .pkt ≡ cond (t .echoed) (set pkt 2 10) pkt → (t .echoed ≡ true → 2 < length pkt) → Carried (r .tx) (t .sent) → SameReceived pkt (returns r) t
-  long : {r : theirs.Received} {t : PppTurn} (q : Packet) → r .tx ≡ q ∷ [] → maxPacket < packetLen q → t .outcome ≡ Refused ReplyLong → SameReceived pkt (returns r) t
-  stops : {p : Place} {t : PppTurn} → RefusedAt p (t .outcome) → SameReceived pkt (panics p) t
+  long : {r : theirs.Received} {t : Turn} (q : Packet) → r .tx ≡ q ∷ [] → maxPacket < packetLen q → t .outcome ≡ Refused ReplyLong → SameReceived pkt (returns r) t
+  stops : {p : Place} {t : Turn} → RefusedAt p (t .outcome) → SameReceived pkt (panics p) t
 
 module _ (p : ppp.Ppp) (held : Held p) (pkt : List ℕ) where
   lcp-turn : (h : Run (Handled Lcp)) (t : ours.Reaction) → Same lcpProtocol proto.Lcp viewLcp lcp-stands pkt h t
-      → SameReceived pkt (h >>= λ h. returns (record { ppp = theirs.withLcp (viewPpp p) (h .fsm); pkt = h .pkt; tx = h .tx })) (lcpTurn p t)
+      → SameReceived pkt (h >>= λ h. returns (record { ppp = theirs.withLcp (viewPpp p) (h .fsm); pkt = h .pkt; tx = h .tx })) (fromLcp p t)
   lcp-turn h t (automaton.same i s x small a b c d e f) =
       rw b (same (ap (theirs.withLcp (viewPpp p)) a) (record { lcp-id = small; ipv4cp-id = held .ipv4cp-id; auth = held .auth }) c d e f)
   lcp-turn h t (automaton.long q a b c) = long q a b c
   lcp-turn h t (automaton.stops f) = stops f
 
   ipv4cp-turn : (h : Run (Handled Ipv4cp)) (t : ours.Reaction) → Same ipv4cpProtocol proto.Ipv4cp viewIpv4cp ipv4cp-stands pkt h t
-      → SameReceived pkt (h >>= λ h. returns (record { ppp = theirs.withIpv4cp (viewPpp p) (h .fsm); pkt = h .pkt; tx = h .tx })) (ipv4cpTurn p t)
+      → SameReceived pkt (h >>= λ h. returns (record { ppp = theirs.withIpv4cp (viewPpp p) (h .fsm); pkt = h .pkt; tx = h .tx })) (fromIpv4cp p t)
   ipv4cp-turn h t (automaton.same i s x small a b c d e f) =
       rw b (same (ap (theirs.withIpv4cp (viewPpp p)) a) (record { lcp-id = held .lcp-id; ipv4cp-id = small; auth = held .auth }) c d e f)
   ipv4cp-turn h t (automaton.long q a b c) = long q a b c
   ipv4cp-turn h t (automaton.stops f) = stops f
 
-  pap-turn : (h : Run PapHandled) (t : AuthTurn) → pap.SamePap h t
-      → SameReceived pkt (h >>= λ h. returns (record { ppp = theirs.withPap (viewPpp p) (h .pap); pkt = pkt; tx = h .tx })) (authTurn p t)
+  pap-turn : (h : Run PapHandled) (t : AuthReaction) → pap.SamePap h t
+      → SameReceived pkt (h >>= λ h. returns (record { ppp = theirs.withPap (viewPpp p) (h .pap); pkt = pkt; tx = h .tx })) (fromAuth p t)
   pap-turn h t (pap.same a b c d) =
       same (ap (theirs.withPap (viewPpp p)) a) (record { lcp-id = held .lcp-id; ipv4cp-id = held .ipv4cp-id; auth = b }) c refl (λ e. absurd (false≢true e)) d
   pap-turn h t (pap.stops f) = stops f

@@ -14,7 +14,7 @@ use Rattle.papers.specs.Rfc1661.{Carried}
 use Rattle.papers.specs.Rfc1334.{pap, authenticateAck, authenticateNak, Answer}
 use Rattle.options.specs.Wire.{lengthField}
 use Rattle.negotiation.specs.Messages.{nextId}
-use Rattle.negotiation.specs.Pap.{isPapSent, papBytes, withPapState, steppedPap, PapTurn, papTurned, papRequested, papActOf, papHandleOf, openedPap}
+use Rattle.negotiation.specs.Pap.{isPapSent, papBytes, withPapState, steppedPap, PapReaction, papReacts, papRequested, papActOf, papHandleOf, openedPap}
 use Rattle.negotiation.specs.Credentials.{nameOf, passwordOf}
 use Rattle.papers.proofs.Packets.{read-as}
 use Rattle.papers.proofs.Layouts1334.{Authenticates, authenticates}
@@ -22,10 +22,10 @@ use Rattle.papers.proofs.Layouts1334.{Authenticates, authenticates}
 -- ---- what is sent
 
 -- PAP asks: one packet, an Authenticate-Request with the credentials that it is handed, and the id steps
-pub record Asks (c : Credentials) (p : Pap) (t : PapTurn) : Type 0 where
+pub record Asks (c : Credentials) (p : Pap) (t : PapReaction) : Type 0 where
   pub bytes : List ℕ
   pub request : Authenticates bytes (nextId (p .id)) (nameOf c) (passwordOf c)
-  pub turn : t ≡ papTurned (steppedPap p) (bytes ∷ [])
+  pub turn : t ≡ papReacts (steppedPap p) (bytes ∷ [])
 
 asks : (c : Credentials) (p : Pap) → Asks c p (papRequested c p)
 unfolding papRequested
@@ -48,7 +48,7 @@ by-code c p {bytes} k =
 
 -- the data is not read, so any will do
 module _ (c : Credentials) (p : Pap) (s : isPapSent (p .state) ≡ true) {bytes info : List ℕ} {n i : ℕ} where
-  pub takes-ack : Carried bytes n authenticateAck i info → papHandleOf c p bytes ≡ papTurned (withPapState p Opened) []
+  pub takes-ack : Carried bytes n authenticateAck i info → papHandleOf c p bytes ≡ papReacts (withPapState p Opened) []
   unfolding papActOf
   takes-ack k = by-code c p k ∙ rw s refl
 
@@ -57,12 +57,12 @@ module _ (c : Credentials) (p : Pap) (s : isPapSent (p .state) ≡ true) {bytes 
   takes-nak k = rw (by-code c p k, s) (asks c p)
 
   -- any other code is ignored
-  pub ignores : {code : ℕ} → Carried bytes n code i info → (code ≡ authenticateAck → ⊥) → (code ≡ authenticateNak → ⊥) → papHandleOf c p bytes ≡ papTurned p []
+  pub ignores : {code : ℕ} → Carried bytes n code i info → (code ≡ authenticateAck → ⊥) → (code ≡ authenticateNak → ⊥) → papHandleOf c p bytes ≡ papReacts p []
   unfolding papActOf
   ignores {code} k a b = by-code c p k ∙ rw (s, ne-eqb code authenticateAck a, ne-eqb code authenticateNak b) refl
 
 -- and so is any packet while no answer is awaited
-pub idle-ignores : (c : Credentials) (p : Pap) → isPapSent (p .state) ≡ false → {bytes info : List ℕ} {n code i : ℕ} → Carried bytes n code i info → papHandleOf c p bytes ≡ papTurned p []
+pub idle-ignores : (c : Credentials) (p : Pap) → isPapSent (p .state) ≡ false → {bytes info : List ℕ} {n code i : ℕ} → Carried bytes n code i info → papHandleOf c p bytes ≡ papReacts p []
 unfolding papActOf
 idle-ignores c p s k = by-code c p k ∙ rw s refl
 
@@ -74,7 +74,7 @@ pub record Answered (bytes : List ℕ) (code id : ℕ) (message : List ℕ) : Ty
   pub answer : Answer info message
 
 module _ (c : Credentials) (p : Pap) (s : isPapSent (p .state) ≡ true) {bytes message : List ℕ} {i : ℕ} where
-  pub ack-opens : Answered bytes authenticateAck i message → papHandleOf c p bytes ≡ papTurned (withPapState p Opened) []
+  pub ack-opens : Answered bytes authenticateAck i message → papHandleOf c p bytes ≡ papReacts (withPapState p Opened) []
   ack-opens a = takes-ack c p s (a .carried)
 
   pub nak-asks : Answered bytes authenticateNak i message → Asks c p (papHandleOf c p bytes)

@@ -28,13 +28,13 @@ use Rattle.phases.specs.declared.ppp.Phase.the-variants.{Dead, Establish
 use Rattle.phases.specs.declared.ppp.Ppp.{Ppp}
 use Rattle.phases.specs.declared.ppp.Turned.{Turned}
 use Rattle.phases.specs.declared.phase.Stepped.{Stepped}
-use Rattle.phases.specs.Phases.{lcpIn, ipv4cpIn, PppTurn, Step, pppTurned, pppRefused, rejectOf, receivedOf, byAuth, establishOf, authOf, networkOf, byPhase, phaseOf, restsOf, pollOf, turnOf, turnedAs, steppedAs, Turns}
+use Rattle.phases.specs.Phases.{lcpIn, ipv4cpIn, Turn, Step, turnTo, turnRefused, rejectOf, receivedOf, byAuth, establishOf, authOf, networkOf, byPhase, phaseOf, restsOf, pollOf, turnOf, asTurned, steppedAs, Turns}
 use Rattle.phases.proofs.Resting.{rests-still}
 
 -- ---- a turn, by its outcome
 
 module _ (p : Ppp) (pkt : List ℕ) where
-  pub turn-refused : {why : Refusal} → receivedOf p pkt .outcome ≡ Refused why → turnOf p pkt ≡ pppRefused p why
+  pub turn-refused : {why : Refusal} → receivedOf p pkt .outcome ≡ Refused why → turnOf p pkt ≡ turnRefused p why
   unfolding turnOf
   turn-refused e = rw e refl
 
@@ -51,7 +51,7 @@ module _ (p : Ppp) (pkt : List ℕ) where
 
 -- an IPv4 packet changes nothing, and a turn with it is a phase step alone
 module _ (p : Ppp) (pkt : List ℕ) (h : 2 ≤ length pkt) (e : protocolIn pkt ≡ 0x0021) where
-  pub received-ip : receivedOf p pkt ≡ pppTurned p []
+  pub received-ip : receivedOf p pkt ≡ turnTo p []
   unfolding receivedOf
   received-ip = rw (le-ltb (length pkt) 2 h, e) refl
 
@@ -64,7 +64,7 @@ module _ (p : Ppp) (pkt : List ℕ) (h : 2 ≤ length pkt) (e : protocolIn pkt �
 pub received-sends : (p : Ppp) (pkt : List ℕ) → Sends 2 (receivedOf p pkt .sent)
 unfolding receivedOf rejectOf
 received-sends p pkt =
-    let P : PppTurn → Type 0 = λ t. Sends 2 (t .sent) in
+    let P : Turn → Type 0 = λ t. Sends 2 (t .sent) in
     let n = protocolIn pkt in
     cond-all P (ltb (length pkt) 2) (sends-none 2)
     (cond-all P (eqb n 0xC021) (handle-sends (lcpIn (p .lcp)) pkt)
@@ -100,13 +100,13 @@ pub turn-sends : (p : Ppp) (pkt : List ℕ) → Sends maxReplies (turnOf p pkt .
 unfolding turnOf
 turn-sends p pkt =
     let t = receivedOf p pkt in
-    cond-all (λ (x : PppTurn). Sends maxReplies (x .sent)) (isDone (t .outcome))
+    cond-all (λ (x : Turn). Sends maxReplies (x .sent)) (isDone (t .outcome))
     (sends-both (t .sent) (phaseOf (t .ppp) .sent) (received-sends p pkt) (phase-sends (t .ppp))) (sends-none maxReplies)
 
 -- ---- a turn as the code puts it together
 
-module _ (p : Ppp) (pkt : List ℕ) {t : Turned} (et : t ≡ turnedAs (receivedOf p pkt)) where
-  pub turns-refused : {why : Refusal} {r : Turned} → t .outcome ≡ Refused why → r ≡ turnedAs (pppRefused p why)
+module _ (p : Ppp) (pkt : List ℕ) {t : Turned} (et : t ≡ asTurned (receivedOf p pkt)) where
+  pub turns-refused : {why : Refusal} {r : Turned} → t .outcome ≡ Refused why → r ≡ asTurned (turnRefused p why)
       → Turns (turnOf p pkt) (r .outcome) (r .echoed) (r .ppp) (r .replies)
   turns-refused eo er =
       rw (turn-refused p pkt (sym (ap (λ (x : Turned). x .outcome) et) ∙ eo), er) (record { outcome = refl; echoed = refl; ppp = refl; replies = refl })

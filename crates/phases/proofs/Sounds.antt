@@ -20,7 +20,7 @@ use Rattle.negotiation.specs.declared.states.State.the-variants.{Closed}
 use Rattle.options.specs.Refusal.{isDone}
 use Rattle.options.specs.Wire.{protocolIn}
 use Rattle.negotiation.specs.Automaton.{isClosed, isOpened}
-use Rattle.phases.specs.Phases.{freshWith, withPhase, withOpening, withLcp, lcpIn, ipv4cpIn, PppTurn, rejectOf, receivedOf, Step, stepTo, opensLcp, opensIpv4cp, closesIpv4cp, byAuth, establishOf, authOf, networkOf, diesOf, settled, phaseOf, restsOf, pollOf, turnOf, isDead, pppTurned, openOf, newOf, opensAuth, closesAuth}
+use Rattle.phases.specs.Phases.{freshWith, withPhase, withOpening, withLcp, lcpIn, ipv4cpIn, Turn, rejectOf, receivedOf, Step, stepTo, opensLcp, opensIpv4cp, closesIpv4cp, byAuth, establishOf, authOf, networkOf, diesOf, settled, phaseOf, restsOf, pollOf, turnOf, isDead, turnTo, openOf, newOf, opensAuth, closesAuth}
 use Rattle.negotiation.specs.Credentials.{fitsCredentials}
 use Rattle.negotiation.specs.Auth.{isAuthClosed, isAuthSent, isAuthOpened}
 use Rattle.negotiation.proofs.Auths as auth
@@ -77,10 +77,10 @@ fresh-sound a = rests-by (freshWith a) refl refl tt .sound
 
 pub sound-new : (name password : List ℕ) → Sound (newOf name password .ppp)
 sound-new name password =
-    cond-all (λ (t : PppTurn). Sound (t .ppp)) (fitsCredentials (length name) (length password)) (fresh-sound _) (fresh-sound _)
+    cond-all (λ (t : Turn). Sound (t .ppp)) (fitsCredentials (length name) (length password)) (fresh-sound _) (fresh-sound _)
 
 pub sound-open : {p : Ppp} → Sound p → Sound (openOf p .ppp)
-sound-open {p} s = cond-by (λ (t : PppTurn). Sound (t .ppp)) (isDead (p .phase)) opened (λ _. s)
+sound-open {p} s = cond-by (λ (t : Turn). Sound (t .ppp)) (isDead (p .phase)) opened (λ _. s)
   where
     waits : (Establish ≡ Network) ⊎ (Establish ≡ Open) → isAuthSent (p .auth) ≡ false
     waits (inl e) = apart cc
@@ -116,7 +116,7 @@ heard-none p = heard-lcp p (p .lcp) (λ _. refl)
 received-heard : (p : Ppp) (pkt : List ℕ) → Heard p (receivedOf p pkt .ppp)
 unfolding receivedOf rejectOf
 received-heard p pkt =
-    let P : PppTurn → Type 0 = λ t. Heard p (t .ppp) in
+    let P : Turn → Type 0 = λ t. Heard p (t .ppp) in
     let n = protocolIn pkt in
     cond-all P (ltb (length pkt) 2) (heard-none p)
     (cond-all P (eqb n 0xC021) (heard-lcp p _ (handle-near (lcpIn (p .lcp)) pkt))
@@ -220,7 +220,7 @@ step-none Network p s o = rests-still (withPhase p Network) (rw (s .network refl
 step-none Open p s o = rests-still (withPhase p Open) (rw (s .closed ∙ o) refl)
 
 pub calm : {p : Ppp} → Sound p → p .opening ≡ false → Calm p
-calm {p} s o = ap (λ (t : Step). pppTurned (t .ppp) (t .sent)) (step-none (p .phase) p s o)
+calm {p} s o = ap (λ (t : Step). turnTo (t .ppp) (t .sent)) (step-none (p .phase) p s o)
 
 -- ---- poll and a received packet
 
@@ -230,7 +230,7 @@ sound-poll {p} s = heard-rests p p (heard-none p) s .sound
 pub sound-turn : {p : Ppp} (pkt : List ℕ) → Sound p → Sound (turnOf p pkt .ppp)
 unfolding turnOf
 sound-turn {p} pkt s =
-    cond-all (λ (t : PppTurn). Sound (t .ppp)) (isDone (receivedOf p pkt .outcome)) (heard-rests p _ (received-heard p pkt) s .sound) s
+    cond-all (λ (t : Turn). Sound (t .ppp)) (isDone (receivedOf p pkt .outcome)) (heard-rests p _ (received-heard p pkt) s .sound) s
 
 -- a phase step right behind a phase step does nothing
 pub calm-after : {p : Ppp} → Sound p → Calm (phaseOf p .ppp)
@@ -242,5 +242,5 @@ unfolding turnOf
 calm-after-turn {p} pkt s =
     let t = receivedOf p pkt in
     let r = heard-rests p (t .ppp) (received-heard p pkt) s in
-    cond-by (λ (x : PppTurn). x .outcome ≡ Done → Calm (x .ppp)) (isDone (t .outcome)) (λ _ _. calm (r .sound) (r .opened))
+    cond-by (λ (x : Turn). x .outcome ≡ Done → Calm (x .ppp)) (isDone (t .outcome)) (λ _ _. calm (r .sound) (r .opened))
     (λ e d. absurd (true≢false (sym (ap isDone d) ∙ e)))

@@ -12,7 +12,7 @@ use Rattle.options.specs.Lcp.{freshLcp}
 use Rattle.options.specs.Ipv4cp.{freshIpv4cp, shown, shownIp}
 use Rattle.negotiation.specs.Automaton.{isClosed, isOpened, Reaction, handleOf, protocolRejectOf, openedFsm}
 use Rattle.negotiation.specs.Credentials.{fitsCredentials, credentialsWith}
-use Rattle.negotiation.specs.Auth.{authWith, isAuthClosed, isAuthOpened, AuthTurn, authHandleOf, openedAuth, closedAuth}
+use Rattle.negotiation.specs.Auth.{authWith, isAuthClosed, isAuthOpened, AuthReaction, authHandleOf, openedAuth, closedAuth}
 use Rattle.options.specs.declared.refusal.Refusal.{Refusal}
 use Rattle.options.specs.declared.refusal.Refusal.the-variants.{NotDead, CredentialsLong, PacketShort}
 use Rattle.options.specs.declared.refusal.Outcome.{Outcome}
@@ -94,41 +94,41 @@ ipv4cpOut f a = record { id = f .id; state = f .state; proto = ipv4cpOr (f .prot
 -- ---- what a call leaves
 
 -- the outcome, whether the packet's code becomes 10, the record, and the packets sent, in order
-pub record PppTurn : Type 0 where
+pub record Turn : Type 0 where
   pub outcome : Outcome
   pub echoed : Bool
   pub ppp : Ppp
   pub sent : List (List ℕ)
 
-abbrev pub pppTurned : Ppp → List (List ℕ) → PppTurn
-pppTurned p ps = record { outcome = Done; echoed = false; ppp = p; sent = ps }
+abbrev pub turnTo : Ppp → List (List ℕ) → Turn
+turnTo p ps = record { outcome = Done; echoed = false; ppp = p; sent = ps }
 
-abbrev pub pppRefused : Ppp → Refusal → PppTurn
-pppRefused p why = record { outcome = Refused why; echoed = false; ppp = p; sent = [] }
+abbrev pub turnRefused : Ppp → Refusal → Turn
+turnRefused p why = record { outcome = Refused why; echoed = false; ppp = p; sent = [] }
 
 -- ---- a received packet, by its protocol
 
-abbrev pub lcpTurn : Ppp → Reaction → PppTurn
-lcpTurn p t = record { outcome = t .outcome; echoed = t .echoed; ppp = withLcp p (lcpOut (t .fsm) (p .lcp)); sent = t .sent }
+abbrev pub fromLcp : Ppp → Reaction → Turn
+fromLcp p t = record { outcome = t .outcome; echoed = t .echoed; ppp = withLcp p (lcpOut (t .fsm) (p .lcp)); sent = t .sent }
 
-abbrev pub ipv4cpTurn : Ppp → Reaction → PppTurn
-ipv4cpTurn p t = record { outcome = t .outcome; echoed = t .echoed; ppp = withIpv4cp p (ipv4cpOut (t .fsm) (p .ipv4cp)); sent = t .sent }
+abbrev pub fromIpv4cp : Ppp → Reaction → Turn
+fromIpv4cp p t = record { outcome = t .outcome; echoed = t .echoed; ppp = withIpv4cp p (ipv4cpOut (t .fsm) (p .ipv4cp)); sent = t .sent }
 
-abbrev pub authTurn : Ppp → AuthTurn → PppTurn
-authTurn p t = record { outcome = t .outcome; echoed = false; ppp = withAuth p (t .auth); sent = t .sent }
+abbrev pub fromAuth : Ppp → AuthReaction → Turn
+fromAuth p t = record { outcome = t .outcome; echoed = false; ppp = withAuth p (t .auth); sent = t .sent }
 
 -- Protocol-Reject goes out under LCP's id, in every phase
-unfoldable pub rejectOf : Ppp → List ℕ → PppTurn
-rejectOf p pkt = lcpTurn p (protocolRejectOf (lcpIn (p .lcp)) pkt)
+unfoldable pub rejectOf : Ppp → List ℕ → Turn
+rejectOf p pkt = fromLcp p (protocolRejectOf (lcpIn (p .lcp)) pkt)
 
 -- an IPv4 packet is the link's to hand out, and changes nothing here
-unfoldable pub receivedOf : Ppp → List ℕ → PppTurn
+unfoldable pub receivedOf : Ppp → List ℕ → Turn
 receivedOf p pkt =
-    cond (ltb (length pkt) 2) (pppRefused p PacketShort)
-    (cond (eqb (protocolIn pkt) 0xC021) (lcpTurn p (handleOf (lcpIn (p .lcp)) pkt))
-    (cond (eqb (protocolIn pkt) 0xC023) (authTurn p (authHandleOf (p .auth) pkt))
-    (cond (eqb (protocolIn pkt) 0x0021) (pppTurned p [])
-    (cond (eqb (protocolIn pkt) 0x8021) (ipv4cpTurn p (handleOf (ipv4cpIn (p .ipv4cp)) pkt))
+    cond (ltb (length pkt) 2) (turnRefused p PacketShort)
+    (cond (eqb (protocolIn pkt) 0xC021) (fromLcp p (handleOf (lcpIn (p .lcp)) pkt))
+    (cond (eqb (protocolIn pkt) 0xC023) (fromAuth p (authHandleOf (p .auth) pkt))
+    (cond (eqb (protocolIn pkt) 0x0021) (turnTo p [])
+    (cond (eqb (protocolIn pkt) 0x8021) (fromIpv4cp p (handleOf (ipv4cpIn (p .ipv4cp)) pkt))
     (rejectOf p pkt)))))
 
 -- ---- one phase step
@@ -208,17 +208,17 @@ restsOf p = restsIn (p .phase) (p .lcp .state) (isAuthClosed (p .auth)) (isAuthO
 
 -- ---- the calls
 
-abbrev pub pollOf : Ppp → PppTurn
-pollOf p = pppTurned (phaseOf p .ppp) (phaseOf p .sent)
+abbrev pub pollOf : Ppp → Turn
+pollOf p = turnTo (phaseOf p .ppp) (phaseOf p .sent)
 
-abbrev thenPhase : Ppp → PppTurn → PppTurn
+abbrev thenPhase : Ppp → Turn → Turn
 thenPhase p t =
     cond (isDone (t .outcome))
     (record { outcome = Done; echoed = t .echoed; ppp = phaseOf (t .ppp) .ppp; sent = t .sent ++ phaseOf (t .ppp) .sent })
     (record { outcome = t .outcome; echoed = false; ppp = p; sent = [] })
 
 -- one received packet, then one phase step; a refusal leaves all as it was
-unfoldable pub turnOf : Ppp → List ℕ → PppTurn
+unfoldable pub turnOf : Ppp → List ℕ → Turn
 turnOf p pkt = thenPhase p (receivedOf p pkt)
 
 abbrev pub isDead : Phase → Bool
@@ -228,15 +228,15 @@ isDead Auth = false
 isDead Network = false
 isDead Open = false
 
-abbrev pub openOf : Ppp → PppTurn
-openOf p = cond (isDead (p .phase)) (pppTurned (withOpening (withPhase p Establish) true) []) (pppRefused p NotDead)
+abbrev pub openOf : Ppp → Turn
+openOf p = cond (isDead (p .phase)) (turnTo (withOpening (withPhase p Establish) true) []) (turnRefused p NotDead)
 
 -- credentials that do not fit: a fresh record with both empty
-abbrev pub newOf : List ℕ → List ℕ → PppTurn
+abbrev pub newOf : List ℕ → List ℕ → Turn
 newOf name password =
     cond (fitsCredentials (length name) (length password))
-    (pppTurned (freshPpp name password) [])
-    (pppRefused (freshPpp [] []) CredentialsLong)
+    (turnTo (freshPpp name password) [])
+    (turnRefused (freshPpp [] []) CredentialsLong)
 
 -- the addresses that IPv4CP has
 abbrev pub addressesOf : Ipv4cp → Addresses
@@ -255,12 +255,12 @@ statusOf p =
 
 -- ---- as the code holds it
 
-abbrev pub turnedAs : PppTurn → Turned
-turnedAs t = record { outcome = t .outcome; echoed = t .echoed; ppp = t .ppp; replies = repliesOf (t .sent) }
+abbrev pub asTurned : Turn → Turned
+asTurned t = record { outcome = t .outcome; echoed = t .echoed; ppp = t .ppp; replies = repliesOf (t .sent) }
 
 -- what a step of LCP's automaton comes to
-abbrev pub lcpTurned : Ppp → Handled → Turned
-lcpTurned p h = record { outcome = h .outcome; echoed = h .echoed; ppp = withLcp p (lcpOut (h .fsm) (p .lcp)); replies = h .replies }
+abbrev pub lcpTaken : Ppp → Handled → Turned
+lcpTaken p h = record { outcome = h .outcome; echoed = h .echoed; ppp = withLcp p (lcpOut (h .fsm) (p .lcp)); replies = h .replies }
 
 abbrev pub steppedAs : Step → Stepped
 steppedAs s = record { ppp = s .ppp; replies = repliesOf (s .sent) }
@@ -268,12 +268,12 @@ steppedAs s = record { ppp = s .ppp; replies = repliesOf (s .sent) }
 -- ---- what the calls promise
 
 -- a call that changes the record: its outcome and the record
-pub record Changes (t : PppTurn) (o : Outcome) (p : Ppp) : Type 0 where
+pub record Changes (t : Turn) (o : Outcome) (p : Ppp) : Type 0 where
   pub outcome : o ≡ t .outcome
   pub ppp : p ≡ t .ppp
 
 -- a call that may send: also whether an echo was answered, and the packets
-pub record Turns (t : PppTurn) (o : Outcome) (e : Bool) (p : Ppp) (rs : Replies) : Type 0 where
+pub record Turns (t : Turn) (o : Outcome) (e : Bool) (p : Ppp) (rs : Replies) : Type 0 where
   pub outcome : o ≡ t .outcome
   pub echoed : e ≡ t .echoed
   pub ppp : p ≡ t .ppp

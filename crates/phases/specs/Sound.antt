@@ -5,7 +5,7 @@ use mathlib.Core.List.{[]}
 use mathlib.Core.Logic.{_⊎_}
 use Rattle.negotiation.specs.Automaton.{isClosed, isOpened}
 use Rattle.negotiation.specs.Auth.{isAuthClosed, isAuthSent}
-use Rattle.phases.specs.Phases.{isDead, pppTurned, pollOf}
+use Rattle.phases.specs.Phases.{isDead, turnTo, pollOf}
 use Rattle.negotiation.specs.declared.states.State.the-variants.{Closed}
 use Rattle.phases.specs.declared.ppp.Phase.{Phase}
 use Rattle.phases.specs.declared.ppp.Phase.the-variants.{Dead, Establish, Auth, Network, Open}
@@ -35,4 +35,4 @@ pub record Sound (p : Ppp) : Type 0 where
 
 -- a phase step alone changes nothing and sends nothing
 abbrev pub Calm : Ppp → Type 0
-Calm p = pollOf p ≡ pppTurned p []
+Calm p = pollOf p ≡ turnTo p []

@@ -1,7 +1,7 @@
 // The link's phases: packets go to LCP, authentication or IPv4CP, and each call takes one phase step.
 ghost use mathlib.Core.Path.{_≡_};
 ghost use Rattle.negotiation.specs.Automaton.{handleOf};
-ghost use Rattle.phases.specs.Phases.{freshWith, lcpIn, ipv4cpIn, pppRefused, lcpTurn, lcpTurned, ipv4cpTurn, rejectOf, receivedOf, isDead, pollOf, turnOf, openOf, newOf, addressesOf, statusOf, turnedAs, Changes, Turns, authTurn};
+ghost use Rattle.phases.specs.Phases.{freshWith, lcpIn, ipv4cpIn, turnRefused, fromLcp, lcpTaken, fromIpv4cp, rejectOf, receivedOf, isDead, pollOf, turnOf, openOf, newOf, addressesOf, statusOf, asTurned, Changes, Turns, fromAuth};
 ghost use Rattle.negotiation.specs.Auth.{authHandleOf};
 use crate::slots::ipv4cp_in;
 use crate::slots::ipv4cp_out;
@@ -186,7 +186,7 @@ impl Ppp {
     }
 
     fn refuse(self, why: Refusal) -> Turned
-        ensures { λ t. ⌜ t ≡ turnedAs (pppRefused self why) ⌝ }
+        ensures { λ t. ⌜ t ≡ asTurned (turnRefused self why) ⌝ }
     {
         Turned {
             outcome: Outcome::Refused(why),
@@ -197,8 +197,8 @@ impl Ppp {
     }
 
     // What a step of LCP's automaton comes to.
-    fn lcp_turned(self, h: Handled) -> Turned
-        ensures { λ t. ⌜ t ≡ lcpTurned self h ⌝ }
+    fn take_lcp(self, h: Handled) -> Turned
+        ensures { λ t. ⌜ t ≡ lcpTaken self h ⌝ }
     {
         let a = self.lcp;
         let o = h.outcome;
@@ -213,14 +213,14 @@ impl Ppp {
     }
 
     fn received_lcp(self, pkt: &[u8]) -> Turned
-        ensures { λ t. ⌜ t ≡ turnedAs (lcpTurn self (handleOf (lcpIn (self .lcp)) (now (pkt .entry)))) ⌝ }
+        ensures { λ t. ⌜ t ≡ asTurned (fromLcp self (handleOf (lcpIn (self .lcp)) (now (pkt .entry)))) ⌝ }
     {
         let a = self.lcp;
-        self.lcp_turned(lcp_in(a).handle(pkt))
+        self.take_lcp(lcp_in(a).handle(pkt))
     }
 
     fn received_pap(self, pkt: &[u8]) -> Turned
-        ensures { λ t. ⌜ t ≡ turnedAs (authTurn self (authHandleOf (self .auth) (now (pkt .entry)))) ⌝ }
+        ensures { λ t. ⌜ t ≡ asTurned (fromAuth self (authHandleOf (self .auth) (now (pkt .entry)))) ⌝ }
     {
         let b = self.auth;
         let h = b.handle_pap(pkt);
@@ -236,7 +236,7 @@ impl Ppp {
     }
 
     fn received_ipv4cp(self, pkt: &[u8]) -> Turned
-        ensures { λ t. ⌜ t ≡ turnedAs (ipv4cpTurn self (handleOf (ipv4cpIn (self .ipv4cp)) (now (pkt .entry)))) ⌝ }
+        ensures { λ t. ⌜ t ≡ asTurned (fromIpv4cp self (handleOf (ipv4cpIn (self .ipv4cp)) (now (pkt .entry)))) ⌝ }
     {
         let c = self.ipv4cp;
         let h = ipv4cp_in(c).handle(pkt);
@@ -253,14 +253,14 @@ impl Ppp {
 
     // An unknown protocol is rejected in every phase.
     fn send_protocol_reject(self, pkt: &[u8]) -> Turned
-        ensures { λ t. ⌜ t ≡ turnedAs (rejectOf self (now (pkt .entry))) ⌝ }
+        ensures { λ t. ⌜ t ≡ asTurned (rejectOf self (now (pkt .entry))) ⌝ }
     {
         let a = self.lcp;
-        self.lcp_turned(lcp_in(a).send_protocol_reject(pkt))
+        self.take_lcp(lcp_in(a).send_protocol_reject(pkt))
     }
 
     fn received(self, pkt: &[u8]) -> Turned
-        ensures { λ t. ⌜ t ≡ turnedAs (receivedOf self (now (pkt .entry))) ⌝ }
+        ensures { λ t. ⌜ t ≡ asTurned (receivedOf self (now (pkt .entry))) ⌝ }
     {
         if pkt.len() < 2 {
             return self.refuse(Refusal::PacketShort);

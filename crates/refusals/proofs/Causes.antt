@@ -17,9 +17,9 @@ use Rattle.options.specs.Options.{walkOf}
 use Rattle.options.specs.Proto.{startOf, nacksOf}
 use Rattle.options.specs.Reply.{freshReply, replyOf}
 use Rattle.negotiation.specs.Automaton.{isClosed, isOpened, ackResends, Reaction, unless, requested, ackOf, repliedOf, reqWith, reqOf, nackWith, nackOf, termAckOf, ignoreOf, echoOf, actOf, handleOf, protocolRejectOf}
-use Rattle.negotiation.specs.Pap.{isPapSent, PapTurn, papRequested, papActOf, papHandleOf}
+use Rattle.negotiation.specs.Pap.{isPapSent, PapReaction, papRequested, papActOf, papHandleOf}
 use Rattle.negotiation.specs.Auth.{authHandleOf}
-use Rattle.phases.specs.Phases.{lcpIn, ipv4cpIn, PppTurn, rejectOf, receivedOf}
+use Rattle.phases.specs.Phases.{lcpIn, ipv4cpIn, Turn, rejectOf, receivedOf}
 use Rattle.negotiation.specs.declared.option_fsm.OptionFsm.{OptionFsm}
 use Rattle.negotiation.specs.declared.auth.Auth.{Auth}
 use Rattle.phases.specs.declared.ppp.Ppp.{Ppp}
@@ -135,7 +135,7 @@ unfolding authHandleOf papHandleOf papActOf papRequested
 pap-by a pkt =
     let s = isPapSent (a .pap .state) in
     let c = codeAt pkt in
-    let P : PapTurn → Type 0 = λ t. t .outcome ≡ Done in
+    let P : PapReaction → Type 0 = λ t. t .outcome ≡ Done in
     by-le 6 (length pkt)
     (λ h. by-le (lengthAt pkt) (length pkt)
     (λ l. by-le (lengthAt pkt + 2) (length pkt)
@@ -319,7 +319,7 @@ module _ (p : Ppp) (pkt : List ℕ) where
   pub cause : Cause p pkt (numberFrom p pkt)
   unfolding receivedOf rejectOf protocolRejectOf
   cause =
-      let P : PppTurn → Type 0 = λ t. Cause p pkt (outcomeNumber (t .outcome)) in
+      let P : Turn → Type 0 = λ t. Cause p pkt (outcomeNumber (t .outcome)) in
       let n = protocolAt pkt in
       cond-by P (ltb (length pkt) 2) (λ e. short (ltb-true _ _ e))
       (λ _. cond-by P (eqb n 0xC021) (λ e. handle-cause p pkt lcp (eqb-true n 0xC021 e))

@@ -15,7 +15,7 @@ use Rattle.framing.specs.Reader.{isShort, isComplete, fetched}
 use Rattle.framing.specs.declared.frame_reader.FrameReader.{FrameReader}
 use Rattle.framing.specs.declared.frame_reader.State.the-variants.{Complete}
 use Rattle.options.specs.Refusal.{numberOf, outcomeNumber}
-use Rattle.phases.specs.Phases.{PppTurn, receivedOf, pollOf, turnOf}
+use Rattle.phases.specs.Phases.{Turn, receivedOf, pollOf, turnOf}
 use Rattle.options.specs.declared.refusal.Outcome.{Outcome}
 use Rattle.options.specs.declared.refusal.Outcome.the-variants.{Done, Refused}
 use Rattle.phases.proofs.Phasing.{turn-refused, turn-done}
@@ -60,7 +60,7 @@ module _ (l : PPPoS) (tx rx : List ℕ) where
       ((actionNumber (q .action) ≡ 1) × (length tx < length out) × ((q .link ≡ l) × (q .tx ≡ tx) × (q .rx ≡ rx)))
       ⊎ ((length tx < length out → ⊥) × (actionNumber (q .action) ≡ 0))
 
-  written-last : (r : FrameReader) (t : PppTurn) → Last (frames (t .sent)) (written l r t tx rx) × Sent tx (frames (t .sent)) (written l r t tx rx)
+  written-last : (r : FrameReader) (t : Turn) → Last (frames (t .sent)) (written l r t tx rx) × Sent tx (frames (t .sent)) (written l r t tx rx)
   unfolding Last
   written-last r t =
       let out = frames (t .sent) in
@@ -90,7 +90,7 @@ module _ (l : PPPoS) (tx rx : List ℕ) where
 
   module _ (held : length rx < l .«frame_reader» .len → ⊥) where
     -- a turn of negotiation that refuses nothing
-    right-written : (r : FrameReader) (t : PppTurn) → (Got → numberFrom (l .ppp) pkt ≡ 0) → Right l tx rx (frames (t .sent)) (written l r t tx rx)
+    right-written : (r : FrameReader) (t : Turn) → (Got → numberFrom (l .ppp) pkt ≡ 0) → Right l tx rx (frames (t .sent)) (written l r t tx rx)
     right-written r t z =
         let w = written-last r t in
         record { first = first-last (frames (t .sent)) (written l r t tx rx) held z (w .0); sent = w .1 }
@@ -101,12 +101,12 @@ module _ (l : PPPoS) (tx rx : List ℕ) where
     right-turn g Done e =
         let r = fetched (l .«frame_reader») in
         let t = turnOf (l .ppp) pkt in
-        rw (answered-done l r t tx rx (ap (λ (t : PppTurn). t .outcome) (turn-done (l .ppp) pkt e))) (right-written r t (λ _. ap outcomeNumber e))
+        rw (answered-done l r t tx rx (ap (λ (t : Turn). t .outcome) (turn-done (l .ppp) pkt e))) (right-written r t (λ _. ap outcomeNumber e))
     right-turn g (Refused why) e =
         let r = fetched (l .«frame_reader») in
         let t = turnOf (l .ppp) pkt in
         let n = ap outcomeNumber e in
-        rw (answered-refused l r t tx rx (ap (λ (t : PppTurn). t .outcome) (turn-refused (l .ppp) pkt e)))
+        rw (answered-refused l r t tx rx (ap (λ (t : Turn). t .outcome) (turn-refused (l .ppp) pkt e)))
         (record {
           first =
               first-refused (frames (t .sent)) (declined (Negotiation why) (linkOf r (l .ppp)) tx rx) held (numberOf why) g n (refusal-some why)

@@ -14,7 +14,7 @@ use Rattle.options.specs.declared.refusal.Outcome.the-variants.{Done, Refused}
 use Rattle.negotiation.specs.Pap.{papBytes, freshPap}
 use Rattle.negotiation.specs.Messages.{nextId, requestBytes}
 use Rattle.negotiation.specs.Credentials.{credentialsWith}
-use Rattle.phases.specs.Phases.{freshPpp, ipv4cpIn, pollOf, turnOf, openOf, PppTurn}
+use Rattle.phases.specs.Phases.{freshPpp, ipv4cpIn, pollOf, turnOf, openOf, Turn}
 use Rattle.negotiation.specs.declared.states.State as fsm
 use Rattle.phases.specs.declared.ppp.Ppp.{Ppp}
 use Rattle.link.specs.Link.{Poll, newLink, openLink, pollLink, actionNumber}
@@ -87,7 +87,7 @@ abbrev pub first : List (List ℕ) → List ℕ
 first [] = []
 first (p ∷ ps) = p
 
-abbrev pub answers : PppTurn → List ℕ
+abbrev pub answers : Turn → List ℕ
 answers t = fsmNumber (t .ppp .lcp .state) ∷ t .ppp .lcp .proto .«asyncmap_remote» ∷ first (t .sent)
 
 abbrev pub k10 : List ℕ

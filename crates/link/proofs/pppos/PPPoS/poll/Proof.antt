@@ -1,7 +1,7 @@
 use mathlib.Core.Path.{sym, ap, ap₂, _∙_}
 use native.Mathlib.Omega.{arith}
 use Rattle.link.proofs.Polling.{polled, polls-of, answered-rested, turned-is, turns-short, got-packet, poll-short, poll-nothing, poll-refused, poll-packet}
-use Rattle.phases.specs.Phases.{PppTurn}
+use Rattle.phases.specs.Phases.{Turn}
 use Rattle.phases.proofs.Phasing.{poll-sends}
 use Rattle.link.specs.Link.{answeredPoll}
 use Rattle.link.specs.declared.pppos.PPPoS.{PPPoS}
@@ -72,7 +72,7 @@ returns-3 c =
     let g = c .before .before .before .before .before .before .before .before .before .before .before in
     let i = g .before .before .before in
     polls-of (c .before .before .before .before .answer .ensures
-    ∙ ap (λ (x : PppTurn). answeredPoll (a .self) (a .self .«frame_reader») x (a .tx .now) (a .rx .now)) (turned-is {t = t .result} (t .ensures))
+    ∙ ap (λ (x : Turn). answeredPoll (a .self) (a .self .«frame_reader») x (a .tx .now) (a .rx .now)) (turned-is {t = t .result} (t .ensures))
     ∙ sym (poll-nothing (a .self) (a .tx .now) (a .rx .now) (omega (arith, i .before .if1 .left)) (i .receive .ensures) (g .enum-told .given .1)))
 
 returns-4 : tie.Need-returns-4

@@ -3,7 +3,7 @@ use Rattle.link.proofs.Polling.{polled, turned-is, turns-short, packet-
 use Prim.Native.Nat.{_-_}
 use lib.ListN.{take, drop}
 use native.Mathlib.Omega.{arith}
-use Rattle.phases.specs.Phases.{PppTurn}
+use Rattle.phases.specs.Phases.{Turn}
 use Rattle.phases.proofs.Phasing.{turn-sends}
 use Rattle.link.specs.Link.{answeredPoll}
 use Rattle.link.specs.declared.pppos.PPPoS.{PPPoS}
@@ -66,7 +66,7 @@ returns-2 c =
     let t = c .before .before .before .before .before .before .before .turn in
     let pkt = take (a .to - 1) (drop 1 (a .rx .now)) in
     c .before .before .before .before .answer .ensures
-    ∙ ap (λ (x : PppTurn). answeredPoll (a .self) (a .r) x (a .tx .now) (a .rx .now)) (turned-is {t = t .result} (t .ensures))
+    ∙ ap (λ (x : Turn). answeredPoll (a .self) (a .r) x (a .tx .now) (a .rx .now)) (turned-is {t = t .result} (t .ensures))
     ∙ sym (packet-turn (a .self) (a .r) (a .to) (a .tx .now) (a .rx .now) pkt (sym (i .before .is-ip .ensures) ∙ i .if1 .left))
 
 pub poll-packet-spec : {M : Type 1} → statement M

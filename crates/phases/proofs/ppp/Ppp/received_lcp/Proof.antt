@@ -9,11 +9,11 @@ lcp-in-requires c κs = search needs
 handle-requires : tie.Need-handle-requires
 handle-requires c κs = search needs
 
-lcp-turned-requires : tie.Need-lcp-turned-requires
-lcp-turned-requires c κs = search needs
+take-lcp-requires : tie.Need-take-lcp-requires
+take-lcp-requires c κs = search needs
 
 returns : tie.Need-returns
-returns c = rw (c .lcp-turned .ensures, c .before .handle .ensures, c .before .before .lcp-in .ensures) refl
+returns c = rw (c .take-lcp .ensures, c .before .handle .ensures, c .before .before .lcp-in .ensures) refl
 
 pub received-lcp-spec : {M : Type 1} → statement M
-received-lcp-spec = tie.close (tie.spec lcp-in-requires handle-requires lcp-turned-requires returns)
+received-lcp-spec = tie.close (tie.spec lcp-in-requires handle-requires take-lcp-requires returns)

@@ -10,12 +10,12 @@ lcp-in-requires c κs = search needs
 send-protocol-reject-requires : tie.Need-send-protocol-reject-requires
 send-protocol-reject-requires c κs = search needs
 
-lcp-turned-requires : tie.Need-lcp-turned-requires
-lcp-turned-requires c κs = search needs
+take-lcp-requires : tie.Need-take-lcp-requires
+take-lcp-requires c κs = search needs
 
 returns : tie.Need-returns
 unfolding rejectOf
-returns c = rw (c .lcp-turned .ensures, c .before .send-protocol-reject .ensures, c .before .before .lcp-in .ensures) refl
+returns c = rw (c .take-lcp .ensures, c .before .send-protocol-reject .ensures, c .before .before .lcp-in .ensures) refl
 
 pub send-protocol-reject-spec : {M : Type 1} → statement M
-send-protocol-reject-spec = tie.close (tie.spec lcp-in-requires send-protocol-reject-requires lcp-turned-requires returns)
+send-protocol-reject-spec = tie.close (tie.spec lcp-in-requires send-protocol-reject-requires take-lcp-requires returns)
