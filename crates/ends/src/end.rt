@@ -8,13 +8,11 @@ use crate::wire::plus;
 use framing::encode::encode;
 use framing::frame_reader::Reading;
 use link::choices::Choices;
+use link::frames::ALWAYS_ENOUGH;
 use link::pppos::PPPoS;
 use link::pppos::PPPoSAction;
 use link::pppos::Polled;
 use link::refusal::Outcome;
-
-// A poll never lacks room with so much.
-const ROOM: usize = 795;
 
 // `sent` bytes are on its own wire, from the front, and `heard` bytes of the other end's were consumed. Then how many calls were
 // refused, how many steps took none of the bytes that were handed in, and what the link knew when it was opened.
@@ -54,7 +52,7 @@ fn written(a: PPPoSAction) -> usize {
 }
 
 fn poll_into(link: PPPoS, room: &mut [u8], rx: &mut [u8]) -> Polled {
-    let n = lent(room, ROOM);
+    let n = lent(room, ALWAYS_ENOUGH);
     link.poll(&mut room[0..n], rx)
 }
 

@@ -21,6 +21,7 @@ use link::pppos::PPPoSAction;
 use link::pppos::ip_packet;
 use link::refusal::Outcome;
 use link::refusal::Refusal;
+use status_lines::status::MAX_LINES;
 use status_lines::status::lines;
 
 fn number(r: Refusal) -> usize {
@@ -173,7 +174,7 @@ fn one_line(out: &mut [u8], at: usize, s: &[u8]) -> usize {
 }
 
 fn status(out: &mut [u8], at: usize, link: PPPoS) -> usize {
-    let mut six = [0u8; 111];
+    let mut six = [0u8; MAX_LINES];
     let wrote = lines(link.status(), &mut six);
     one_line(out, at, front(&six, wrote.count))
 }
