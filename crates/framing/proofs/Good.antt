@@ -7,8 +7,8 @@ use Prim.Native.Nat.{ℕ, suc, _+_, _-_, _≤_, _<_, _^_}
 use native.Mathlib.Omega.{arith}
 use borrow.Author.Tests.{le-ltb, ltb-false, eqb-true}
 use lib.Dec.{ltb, eqb}
-use lib.ListN.{length}
-use lib.Seq.{take-append-seam}
+use lib.ListN.{length, take, drop}
+use lib.Seq.{sets, take-append-seam}
 use Rattle.laws.specs.Each.{Bytes}
 use Rattle.laws.proofs.Each.{each-right}
 use Rattle.laws.proofs.Ends.{last-two}
@@ -61,4 +61,5 @@ pub control-packet : (k : Reading) (p buf : List ℕ) → length p + 3 ≤ lengt
 control-packet k p buf h =
     let n : length (controlOn p) - 2 - 1 ≡ length p = omega (arith, control-length p) in
     let fits : length (controlOn p) ≤ length buf = omega (arith, control-length p) in
-    rw (n, sets-front (controlOn p) buf fits, append-assoc) (take-append-seam p _)
+    let read : take (length (controlOn p) - 2 - 1) (drop 1 (sets buf 0 (controlOn p))) ≡ p = rw (n, sets-front (controlOn p) buf fits, append-assoc) (take-append-seam p _) in
+    read

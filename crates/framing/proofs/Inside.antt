@@ -18,7 +18,7 @@ use Rattle.laws.proofs.Cases.{by-le, neither}
 use Rattle.laws.proofs.Quiet.{quiet-step}
 use Rattle.laws.proofs.Stores.{take-sets}
 use Rattle.framing.specs.Rfc1662.{unescaped, aborted}
-use Rattle.framing.specs.Reader.{isCrate, freshReader, next, faultIn, isGood, Held, held, stored, step, full}
+use Rattle.framing.specs.Reader.{isCrate, freshReader, next, faultIn, isGood, marks, Held, held, stored, step, full}
 use Rattle.framing.specs.Paper.{doubled}
 use Rattle.framing.specs.declared.frame_reader.State.the-variants.{Address, Data, Complete}
 use Rattle.framing.specs.declared.frame_reader.Reading.{Reading}
@@ -44,7 +44,9 @@ module _ (k : Reading) (b : ℕ) (noFlag : b ≡ 0x7E → ⊥) where
 
   step-behind : eqb b 0x7D && isCrate k ≡ false → Taken k true b (bitXor b 0x20)
   unfolding step
-  step-behind e n buf = rw (ne-eqb b 0x7E noFlag, e)
+  step-behind e n buf =
+      let unmarked : marks (inside k true n buf .reader) b ≡ false = e in
+      rw (ne-eqb b 0x7E noFlag, unmarked)
 
 -- in state Start nothing but a flag counts
 pub start-quiet : (k : Reading) (buf w : List ℕ) → Without 0x7E w → Quiet step full (held (freshReader k) buf) w (held (freshReader k) buf)
