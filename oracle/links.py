@@ -198,6 +198,8 @@ class Links(Script):
                 for tail in (b'\x02', b'\x02\x00', b'\x02\x01', b'\x02\x03', b'\x02\x07abcd', b'\x03\xff', b'\x00\x02'):
                     yield packet(protocol, code, self.ident(), tail)
                     yield packet(protocol, code, self.ident(), good + tail)
+                    yield packet(protocol, code, self.ident(), good + option(9, b'') + tail + good)
+                    yield packet(protocol, code, self.ident(), good * 3 + tail)
                 for n in range(5, 9):
                     for kind in (*KNOWN[protocol], 7):
                         many = option(kind, b'\xc0\x24' if (protocol, kind) == (LCP, 3) else self.value()) * n

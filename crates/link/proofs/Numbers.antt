@@ -1,13 +1,14 @@
--- A refusal's number, with the values beside it, tells its cause, but for the numbers that document 01's table gives to several causes.
+-- A refusal's number, with the values beside it, tells its cause, but for the two numbers that two crates give.
 -- Assumes nothing.
 use mathlib.Core.Path.{_≡_, refl, ap, ap₂, sym, _∙_}
 use mathlib.Core.Bool.{false, cond, true≢false}
 use mathlib.Core.List.{List, [], _∷_}
 use Prim.Native.Nat.{ℕ}
+use native.Mathlib.Omega.{arith}
+use borrow.Author.Tests.{ne-eqb}
 use lib.Dec.{eqb}
-use lib.ListN.{getD}
 use Rattle.framing.specs.declared.refusal.Refusal.the-variants.{BufferFull, BufferShort, FrameShort}
-use Rattle.options.specs.declared.refusal.Refusal.the-variants.{NotDead, CredentialsLong, PacketShort, ConfigureShort, EchoEmpty, PapPast, OptionCut, OptionLong, OptionsMany, ReplyLong}
+use Rattle.options.proofs.Numbers as below
 use Rattle.link.specs.Refusal.{numberOf, valuesOf, isShared}
 use Rattle.link.specs.Link.{actionNumber, actionValues}
 use Rattle.link.specs.declared.refusal.Refusal.{Refusal}
@@ -17,13 +18,7 @@ use Rattle.link.specs.declared.pppos.PPPoSAction.the-variants.{Idle, Rec
 
 -- the cause that a number and its values stand for
 abbrev causeOf : ℕ → List ℕ → Refusal
-causeOf n v =
-    cond (eqb n 2) (Negotiation NotDead)
-    (cond (eqb n 3) (Framing BufferShort)
-    (cond (eqb n 4) (Negotiation CredentialsLong)
-    (cond (eqb n 7) (Negotiation (OptionCut (getD v 0 0)))
-    (cond (eqb n 8) (Negotiation OptionLong)
-    (cond (eqb n 9) (Negotiation OptionsMany) (Negotiation ReplyLong))))))
+causeOf n v = cond (eqb n 3) (Framing BufferShort) (Negotiation (below.causeOf n v))
 
 record Told (r : Refusal) : Type 0 where
   some : eqb (numberOf r) 0 ≡ false
@@ -33,16 +28,11 @@ told : (r : Refusal) → Told r
 told (Framing BufferFull) = record { some = refl; back = λ e. absurd (true≢false e) }
 told (Framing BufferShort) = record { some = refl; back = λ e. refl }
 told (Framing FrameShort) = record { some = refl; back = λ e. absurd (true≢false e) }
-told (Negotiation NotDead) = record { some = refl; back = λ e. refl }
-told (Negotiation CredentialsLong) = record { some = refl; back = λ e. refl }
-told (Negotiation PacketShort) = record { some = refl; back = λ e. absurd (true≢false e) }
-told (Negotiation ConfigureShort) = record { some = refl; back = λ e. absurd (true≢false e) }
-told (Negotiation EchoEmpty) = record { some = refl; back = λ e. absurd (true≢false e) }
-told (Negotiation PapPast) = record { some = refl; back = λ e. absurd (true≢false e) }
-told (Negotiation (OptionCut at)) = record { some = refl; back = λ e. refl }
-told (Negotiation OptionLong) = record { some = refl; back = λ e. refl }
-told (Negotiation OptionsMany) = record { some = refl; back = λ e. refl }
-told (Negotiation ReplyLong) = record { some = refl; back = λ e. refl }
+told (Negotiation r) =
+    record {
+      some = ne-eqb _ 0 (below.not-given r 0 (λ e. omega arith));
+      back = λ e. rw (ne-eqb _ 3 (below.not-given r 3 (λ e. omega arith))) (ap Negotiation (below.cause-back r));
+    }
 told FramesFull = record { some = refl; back = λ e. absurd (true≢false e) }
 
 pub causes-apart : (x y : Refusal) → numberOf x ≡ numberOf y → valuesOf x ≡ valuesOf y → isShared (numberOf x) ≡ false → x ≡ y

@@ -1,4 +1,4 @@
--- Document 01's refusal numbers, of all refusals that the link gives.
+-- The refusal numbers of documents 01 and 02, of all refusals that the link gives.
 use mathlib.Core.Bool.{Bool, _||_}
 use mathlib.Core.List.{List, []}
 use Prim.Native.Nat.{ℕ}
@@ -21,9 +21,9 @@ valuesOf (Framing r) = []
 valuesOf (Negotiation r) = negotiation.valuesOf r
 valuesOf FramesFull = []
 
--- the numbers under which document 01's table has more than one cause: 1 units or frames, 5 a packet or a frame that is short, 6 three Lengths
+-- the numbers that two crates give, each for a cause of its own: 1 units or frames, 5 a packet or a frame that is short
 abbrev pub isShared : ℕ → Bool
-isShared n = eqb n 1 || (eqb n 5 || eqb n 6)
+isShared n = eqb n 1 || eqb n 5
 
 -- 0 where nothing was refused
 abbrev pub outcomeNumber : Outcome → ℕ

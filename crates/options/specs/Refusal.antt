@@ -1,4 +1,4 @@
--- Document 01's refusal numbers, of the refusals that negotiation gives.
+-- The refusal numbers of documents 01 and 02, of the refusals that negotiation gives.
 use mathlib.Core.Bool.{Bool, true, false}
 use mathlib.Core.List.{List, [], _∷_}
 use Prim.Native.Nat.{ℕ}
@@ -11,9 +11,9 @@ abbrev pub numberOf : Refusal → ℕ
 numberOf NotDead = 2
 numberOf CredentialsLong = 4
 numberOf PacketShort = 5
-numberOf ConfigureShort = 6
-numberOf EchoEmpty = 6
-numberOf PapPast = 6
+numberOf ConfigureShort = 11
+numberOf EchoEmpty = 12
+numberOf PapPast = 13
 numberOf (OptionCut at) = 7
 numberOf OptionLong = 8
 numberOf OptionsMany = 9
@@ -36,6 +36,10 @@ valuesOf ReplyLong = []
 abbrev pub outcomeNumber : Outcome → ℕ
 outcomeNumber Done = 0
 outcomeNumber (Refused r) = numberOf r
+
+abbrev pub outcomeValues : Outcome → List ℕ
+outcomeValues Done = []
+outcomeValues (Refused r) = valuesOf r
 
 abbrev pub isDone : Outcome → Bool
 isDone Done = true

@@ -18,7 +18,7 @@ use Rattle.framing.specs.declared.refusal.Refusal.the-variants.{BufferShort}
 use Rattle.framing.proofs.Reader.{consumed-short}
 use Rattle.options.specs.Refusal.{numberOf}
 use Rattle.options.specs.declared.refusal.Refusal.{Refusal}
-use Rattle.options.specs.declared.refusal.Refusal.the-variants.{NotDead, CredentialsLong, PacketShort, ConfigureShort, EchoEmpty, PapPast, OptionCut, OptionLong, OptionsMany, ReplyLong}
+use Rattle.options.proofs.Numbers.{not-given}
 use Rattle.link.specs.Link.{heldBy, Consumes, Poll, declined, pollLink}
 use Rattle.link.specs.Reached.{Reached}
 use Rattle.link.specs.Refusal.{outcomeNumber}
@@ -161,16 +161,7 @@ unnumbered ipv4cpOpened = refl
 unnumbered papOpened = refl
 
 numbered : (why : Refusal) → 0 < numberOf why
-numbered NotDead = lit< tt
-numbered CredentialsLong = lit< tt
-numbered PacketShort = lit< tt
-numbered ConfigureShort = lit< tt
-numbered EchoEmpty = lit< tt
-numbered PapPast = lit< tt
-numbered (OptionCut at) = lit< tt
-numbered OptionLong = lit< tt
-numbered OptionsMany = lit< tt
-numbered ReplyLong = lit< tt
+numbered why = by-le (numberOf why) 0 (λ h. absurd (not-given why 0 (λ e. omega arith) (omega arith))) (λ h. h)
 
 refused-numbered : {l : PPPoS} {tx rx : List ℕ} {place : Place} {p : Poll} → Refuses l tx rx place p → 0 < numberAt place
 refused-numbered (full n e) = lit< tt

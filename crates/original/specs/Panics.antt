@@ -1,4 +1,4 @@
--- Where the original panics: the place, its number in document 01's table, and what our refusal leaves.
+-- Where the original panics: the place, its number in the table of documents 01 and 02, and what our refusal leaves.
 use mathlib.Core.Path.{_≡_}
 use mathlib.Core.Bool.{true, cond}
 use mathlib.Core.List.{List, [], _∷_}
@@ -36,23 +36,23 @@ use Rattle.original.specs.Domain.{InDomain}
 use Rattle.original.specs.Same.{SamePolled}
 use Rattle.original.specs.History.{Call, polls, OurAnswer, acted, Called, History, Ran, callOf, runOf}
 
--- the number that document 01's table names for a place; 0 where no call comes to it, or where ours goes on
+-- the number that the table names for a place; 0 where no call comes to it, or where ours goes on
 abbrev pub numberAt : Place → ℕ
 numberAt readerLen = 5
 numberAt readerSlice = 3
 numberAt optionLong = 8
 numberAt fsmOpen = 0
-numberAt echoCode = 6
+numberAt echoCode = 12
 numberAt notClosed = 0
-numberAt requestId = 6
-numberAt packetShort = 6
+numberAt requestId = 11
+numberAt packetShort = 11
 numberAt optionsCut = 7
 numberAt requestMany = 9
 numberAt ownMany = 0
 numberAt nameLong = 4
 numberAt passwordLong = 4
 numberAt papOpen = 0
-numberAt papSlice = 6
+numberAt papSlice = 13
 numberAt receivedSlice = 0
 numberAt receivedIp = 0
 numberAt pollOrder = 5

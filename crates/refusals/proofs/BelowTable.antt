@@ -1,10 +1,10 @@
--- Document 01's refusal table holds of the calls below the link: each row is given exactly when it says, and leaves what it says.
+-- The refusal table holds of the calls below the link: each row is given exactly when it says, and leaves and tells what it says.
 -- Assumes nothing.
 use mathlib.Core.Path.{_≡_, refl, ap, _∙_}
 use mathlib.Core.Bool.{Bool, false}
 use mathlib.Core.List.{List}
 use Prim.Native.Nat.{ℕ}
-use Rattle.options.specs.Refusal.{outcomeNumber}
+use Rattle.options.specs.Refusal.{outcomeNumber, outcomeValues}
 use Rattle.options.specs.declared.refusal.Outcome.{Outcome}
 use Rattle.negotiation.specs.Automaton.{handled, handleOf, protocolRejectOf}
 use Rattle.negotiation.specs.Auth.{authHandled, authHandleOf}
@@ -30,14 +30,14 @@ pub record BelowHolds : Type 0 where
   pub «open» : (p : Ppp) {o : Outcome} {p′ : Ppp} → Changes (openOf p) o p′
       → Exactly ⊥ (openRows (p .phase) p) (outcomeNumber o) p′
   pub turn : (p : Ppp) (pkt : List ℕ) {o : Outcome} {e : Bool} {p′ : Ppp} {rs : Replies} → Turns (turnOf p pkt) o e p′ rs
-      → Exactly ⊥ (turnRows p pkt) (outcomeNumber o) (record { kept = p′; echoed = e; count = rs .count })
+      → Exactly ⊥ (turnRows p pkt) (outcomeNumber o) (record { told = outcomeValues o; kept = p′; echoed = e; count = rs .count })
   -- `OptionFsm::handle`, `OptionFsm::send_protocol_reject`, `Auth::handle_pap`
   pub handle : (f : OptionFsm) (pkt : List ℕ) {h : Handled} → h ≡ handled (handleOf f pkt) → (outcomeNumber (h .outcome) ≡ 0 → ⊥)
-      → Unchanged f (record { kept = h .fsm; echoed = h .echoed; count = h .replies .count })
+      → Unchanged f (record { told = outcomeValues (h .outcome); kept = h .fsm; echoed = h .echoed; count = h .replies .count })
   pub reject : (f : OptionFsm) (pkt : List ℕ) {h : Handled} → h ≡ handled (protocolRejectOf f pkt)
-      → Exactly ⊥ (rejectRows f pkt) (outcomeNumber (h .outcome)) (record { kept = h .fsm; echoed = h .echoed; count = h .replies .count })
+      → Exactly ⊥ (rejectRows f pkt) (outcomeNumber (h .outcome)) (record { told = outcomeValues (h .outcome); kept = h .fsm; echoed = h .echoed; count = h .replies .count })
   pub pap : (a : Auth) (pkt : List ℕ) {h : AuthHandled} → h ≡ authHandled (authHandleOf a pkt)
-      → Exactly ⊥ (papRows a pkt) (outcomeNumber (h .outcome)) (record { kept = h .auth; echoed = false; count = h .replies .count })
+      → Exactly ⊥ (papRows a pkt) (outcomeNumber (h .outcome)) (record { told = outcomeValues (h .outcome); kept = h .auth; echoed = false; count = h .replies .count })
 
 pub exactly-below : BelowHolds
 exactly-below =

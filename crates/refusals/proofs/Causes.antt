@@ -1,4 +1,4 @@
--- A received packet is refused exactly for the causes that document 01's table gives.
+-- A received packet is refused exactly for the causes that the table gives, and tells the offset that it says.
 -- Assumes nothing.
 use mathlib.Core.Path.{_≡_, refl, ap, sym, _∙_}
 use mathlib.Core.Bool.{Bool, true, false, _&&_, true≢false, false≢true}
@@ -12,7 +12,7 @@ use lib.ListN.{length, take, drop, getD, length-drop}
 use lib.Seq.{length-take-le}
 use Rattle.laws.proofs.Cases.{by-test, by-le, cond-all, cond-by}
 use Rattle.options.specs.Wire.{maxPacket}
-use Rattle.options.specs.Refusal.{outcomeNumber}
+use Rattle.options.specs.Refusal.{outcomeNumber, outcomeValues}
 use Rattle.options.specs.Options.{walkOf}
 use Rattle.options.specs.Proto.{startOf, nacksOf}
 use Rattle.options.specs.Reply.{freshReply, replyOf}
@@ -25,12 +25,12 @@ use Rattle.negotiation.specs.declared.auth.Auth.{Auth}
 use Rattle.phases.specs.declared.ppp.Ppp.{Ppp}
 use Rattle.options.specs.declared.refusal.Outcome.{Outcome}
 use Rattle.options.specs.declared.refusal.Outcome.the-variants.{Done, Refused}
-use Rattle.options.specs.declared.refusal.Refusal.the-variants.{ConfigureShort, EchoEmpty, PapPast as LengthPast, ReplyLong as LongReply}
+use Rattle.options.specs.declared.refusal.Refusal.the-variants.{ConfigureShort as ShortConfigure, EchoEmpty as EmptyEcho, PapPast as LengthPast, OptionCut, ReplyLong as LongReply}
 use Rattle.negotiation.specs.Messages.{maxRejected}
 use Rattle.negotiation.specs.declared.states.State.{State}
 use Rattle.negotiation.specs.declared.states.State.the-variants.{Closed, ReqSent, AckReceived, AckSent, Opened}
-use Rattle.refusals.specs.Packets.{Which, lcp, ipv4cp, protocolAt, codeAt, lengthAt, dataAt, numberFor, stateFor, Heeded, Fault, Broken, PapPast, LengthShort, OptionFault, ReplyLong}
-use Rattle.refusals.proofs.Faults.{kindOf, request-refused, request-found, answer-refused, answer-found, fault-some, broken-some}
+use Rattle.refusals.specs.Packets.{Which, lcp, ipv4cp, protocolAt, codeAt, lengthAt, dataAt, numberFor, stateFor, Heeded, Fault, Broken, Points, ConfigureShort, EchoEmpty, PapPast, OptionFault, ReplyLong}
+use Rattle.refusals.proofs.Faults.{kindOf, Told, request-refused, request-tells, request-found, Ended, taken, cutAt, answer-refused, answer-found, broken-one, fault-some, broken-some}
 
 -- ---- states
 
@@ -68,7 +68,7 @@ unless-outcome (Refused why) f t e = refl
 
 module _ (f : OptionFsm) where
   module _ (i : ℕ) (q : List ℕ) where
-    req-short : length q < 6 → reqOf f i q .outcome ≡ Refused ConfigureShort
+    req-short : length q < 6 → reqOf f i q .outcome ≡ Refused ShortConfigure
     unfolding reqOf
     req-short h = rw (lt-ltb _ _ h) refl
 
@@ -80,7 +80,7 @@ module _ (f : OptionFsm) where
         (unless-outcome (r .outcome) f (repliedOf f i r) (cond-all (λ (t : Reaction). t .outcome ≡ Done) (isOpened (f .state)) refl refl))
 
   module _ (rej : Bool) (q : List ℕ) where
-    nack-short : length q < 6 → nackOf f rej q .outcome ≡ Refused ConfigureShort
+    nack-short : length q < 6 → nackOf f rej q .outcome ≡ Refused ShortConfigure
     unfolding nackOf
     nack-short h = rw (lt-ltb _ _ h) refl
 
@@ -106,7 +106,7 @@ module _ (f : OptionFsm) where
   act-echo i q = refl
 
   module _ (q : List ℕ) (h : isOpened (f .state) ≡ true) where
-    echo-empty : length q < 3 → echoOf f q .outcome ≡ Refused EchoEmpty
+    echo-empty : length q < 3 → echoOf f q .outcome ≡ Refused EmptyEcho
     unfolding echoOf
     echo-empty l = rw (h, lt-ltb _ _ l) refl
 
@@ -179,48 +179,76 @@ module _ (p : Ppp) (pkt : List ℕ) where
   unfolding receivedOf
   short-refused h = rw (lt-ltb _ _ h) refl
 
-  pap-refused : protocolAt pkt ≡ 0xC023 → PapPast pkt → numberFrom p pkt ≡ 6
+  pub pap-refused : protocolAt pkt ≡ 0xC023 → PapPast pkt → numberFrom p pkt ≡ 13
   unfolding receivedOf
   pap-refused e h =
       let two : 2 ≤ length pkt = omega (arith, h .header) in
       rw (le-ltb _ _ two, e) (go (pap-by (p .auth) pkt))
     where
-      go : PapBy (p .auth) pkt → outcomeNumber (authHandleOf (p .auth) pkt .outcome) ≡ 6
+      go : PapBy (p .auth) pkt → outcomeNumber (authHandleOf (p .auth) pkt .outcome) ≡ 13
       go (inl x) = rw (x .1) refl
       go (inr x) = absurd (x .0 h)
 
-  pub length-refused : LengthShort p pkt → numberFrom p pkt ≡ 6
-  length-refused (LengthShort.configure w c k (inl e) n h) =
+  pub configure-refused : ConfigureShort p pkt → numberFrom p pkt ≡ 11
+  configure-refused (ConfigureShort.configure w c k (inl e) n h) =
       let f = fsmFor w p in
       let l : length (bodyOf pkt) < 6 = omega (arith, length-body k) in
       rw (heeded k p, e, act-req f _ (bodyOf pkt) (closed-not w n), req-short f _ (bodyOf pkt) l) refl
-  length-refused (LengthShort.configure w c k (inr (inl e)) n h) =
+  configure-refused (ConfigureShort.configure w c k (inr (inl e)) n h) =
       let f = fsmFor w p in
       let l : length (bodyOf pkt) < 6 = omega (arith, length-body k) in
       rw (heeded k p, e, act-nack f _ (bodyOf pkt) (closed-not w n), nack-short f false (bodyOf pkt) l) refl
-  length-refused (LengthShort.configure w c k (inr (inr e)) n h) =
+  configure-refused (ConfigureShort.configure w c k (inr (inr e)) n h) =
       let f = fsmFor w p in
       let l : length (bodyOf pkt) < 6 = omega (arith, length-body k) in
       rw (heeded k p, e, act-rej f _ (bodyOf pkt) (closed-not w n), nack-short f true (bodyOf pkt) l) refl
-  length-refused (LengthShort.echo w k s h) =
+
+  pub echo-refused : EchoEmpty p pkt → numberFrom p pkt ≡ 12
+  echo-refused (EchoEmpty.echo w k s h) =
       let f = fsmFor w p in
       rw (heeded k p, act-echo f _ (bodyOf pkt), echo-empty f (bodyOf pkt) (opened w s) (omega (arith, length-body k))) refl
-  length-refused (LengthShort.pap e h) = pap-refused e h
 
-  pub option-refused : {n : ℕ} → OptionFault p pkt n → numberFrom p pkt ≡ n
-  option-refused (OptionFault.request w k n x) =
+  -- the options of a request, of a Nack and of a Rej decide alone
+  request-outcome : (w : Which) → Heeded w 1 pkt → (stateFor w p ≡ Closed → ⊥) → 0 < length (dataAt pkt)
+      → receivedOf p pkt .outcome ≡ replyOf (freshReply (startOf (fsmFor w p .proto))) (walkOf (dataAt pkt)) .outcome
+  request-outcome w k n some =
       let f = fsmFor w p in
-      let l : 6 ≤ length (bodyOf pkt) = omega (arith, fault-some x, length-drop 6 (bodyOf pkt)) in
-      rw (heeded k p, act-req f _ (bodyOf pkt) (closed-not w n), req-outcome f (getD pkt 3 0) (bodyOf pkt) l)
-      (request-refused (f .proto) (dataAt pkt) (rw (fsm-kind w p) x))
-  option-refused (OptionFault.answer w c k (inl e) n x) =
+      let l : 6 ≤ length (bodyOf pkt) = omega (arith, length-drop 6 (bodyOf pkt)) in
+      rw (heeded k p, act-req f _ (bodyOf pkt) (closed-not w n)) (req-outcome f (getD pkt 3 0) (bodyOf pkt) l)
+
+  answer-outcome : (w : Which) (c : ℕ) → Heeded w c pkt → (c ≡ 3) ⊎ (c ≡ 4) → (stateFor w p ≡ Closed → ⊥) → {at : ℕ} → Broken (dataAt pkt) at
+      → receivedOf p pkt .outcome ≡ Refused (OptionCut at)
+  answer-outcome w c k (inl e) n x =
       let f = fsmFor w p in
       let l : 6 ≤ length (bodyOf pkt) = omega (arith, broken-some x, length-drop 6 (bodyOf pkt)) in
       rw (heeded k p, e, act-nack f _ (bodyOf pkt) (closed-not w n), nack-outcome f false (bodyOf pkt) l) (answer-refused false (f .proto) (dataAt pkt) x)
-  option-refused (OptionFault.answer w c k (inr e) n x) =
+  answer-outcome w c k (inr e) n x =
       let f = fsmFor w p in
       let l : 6 ≤ length (bodyOf pkt) = omega (arith, broken-some x, length-drop 6 (bodyOf pkt)) in
       rw (heeded k p, e, act-rej f _ (bodyOf pkt) (closed-not w n), nack-outcome f true (bodyOf pkt) l) (answer-refused true (f .proto) (dataAt pkt) x)
+
+  pub option-refused : {n : ℕ} → OptionFault p pkt n → numberFrom p pkt ≡ n
+  option-refused (OptionFault.request w k n x) =
+      ap outcomeNumber (request-outcome w k n (fault-some x)) ∙ request-refused (fsmFor w p .proto) (dataAt pkt) (rw (fsm-kind w p) x)
+  option-refused (OptionFault.answer w c k e n x) = ap outcomeNumber (answer-outcome w c k e n x)
+
+  points : {o : Outcome} → receivedOf p pkt .outcome ≡ o → Told (dataAt pkt) o → Points (dataAt pkt) (outcomeValues (receivedOf p pkt .outcome))
+  points e t =
+      record {
+        offset = t .offset;
+        first = t .first;
+        only = λ b. broken-one false (fsmFor lcp p .proto) (dataAt pkt) b (t .first);
+        values = ap outcomeValues e ∙ t .values;
+      }
+
+  -- 7 tells where the option is
+  pub option-points : OptionFault p pkt 7 → Points (dataAt pkt) (outcomeValues (receivedOf p pkt .outcome))
+  option-points x = go x refl
+    where
+      go : {n : ℕ} → OptionFault p pkt n → n ≡ 7 → Points (dataAt pkt) (outcomeValues (receivedOf p pkt .outcome))
+      go (OptionFault.request w k n x) e =
+          points (request-outcome w k n (fault-some x)) (request-tells (fsmFor w p .proto) (dataAt pkt) (rw (fsm-kind w p, ← e) x))
+      go (OptionFault.answer w c k e n x) z = points (answer-outcome w c k e n x) (record { offset = _; first = x; values = refl })
 
   reject-refused : (protocolAt pkt ≡ 0xC021 → ⊥) → (protocolAt pkt ≡ 0xC023 → ⊥) → (protocolAt pkt ≡ 0x0021 → ⊥) → (protocolAt pkt ≡ 0x8021 → ⊥)
       → maxPacket < length pkt + 6 → numberFrom p pkt ≡ 10
@@ -242,7 +270,9 @@ module _ (p : Ppp) (pkt : List ℕ) where
 pub data Cause (p : Ppp) (pkt : List ℕ) : ℕ → Type 0 where
   fine : Cause p pkt 0
   short : length pkt < 2 → Cause p pkt 5
-  lengthShort : LengthShort p pkt → Cause p pkt 6
+  configureShort : ConfigureShort p pkt → Cause p pkt 11
+  echoEmpty : EchoEmpty p pkt → Cause p pkt 12
+  papPast : protocolAt pkt ≡ 0xC023 → PapPast pkt → Cause p pkt 13
   option : {n : ℕ} → OptionFault p pkt n → Cause p pkt n
   replyLong : ReplyLong p pkt → Cause p pkt 10
 
@@ -256,7 +286,7 @@ module _ (p : Ppp) (pkt : List ℕ) (w : Which) where
     req-cause k =
         by-le 6 (length (bodyOf pkt))
         (λ h. rw (req-outcome (fsmFor w p) (getD pkt 3 0) (bodyOf pkt) h) (go _ (request-found (fsmFor w p .proto) (dataAt pkt))))
-        (λ h. rw (req-short (fsmFor w p) (getD pkt 3 0) (bodyOf pkt) h) (lengthShort (LengthShort.configure w 1 k (inl refl) n (omega (arith, length-body k)))))
+        (λ h. rw (req-short (fsmFor w p) (getD pkt 3 0) (bodyOf pkt) h) (configureShort (ConfigureShort.configure w 1 k (inl refl) n (omega (arith, length-body k)))))
       where
         go : (m : ℕ) → (m ≡ 0) ⊎ Fault (kindOf (fsmFor w p .proto)) 0 0 (dataAt pkt) m → Cause p pkt m
         go m (inl e) = rw e fine
@@ -265,12 +295,12 @@ module _ (p : Ppp) (pkt : List ℕ) (w : Which) where
     nack-cause : (rej : Bool) (c : ℕ) → (c ≡ 3) ⊎ (c ≡ 4) → Heeded w c pkt → Caused p pkt (nackOf (fsmFor w p) rej (bodyOf pkt))
     nack-cause rej c e k =
         by-le 6 (length (bodyOf pkt))
-        (λ h. rw (nack-outcome (fsmFor w p) rej (bodyOf pkt) h) (go _ (answer-found rej (fsmFor w p .proto) (dataAt pkt))))
-        (λ h. rw (nack-short (fsmFor w p) rej (bodyOf pkt) h) (lengthShort (LengthShort.configure w c k (inr e) n (omega (arith, length-body k)))))
+        (λ h. rw (nack-outcome (fsmFor w p) rej (bodyOf pkt) h) (go _ refl (answer-found rej (fsmFor w p .proto) (dataAt pkt))))
+        (λ h. rw (nack-short (fsmFor w p) rej (bodyOf pkt) h) (configureShort (ConfigureShort.configure w c k (inr e) n (omega (arith, length-body k)))))
       where
-        go : (m : ℕ) → (m ≡ 0) ⊎ ((m ≡ 7) × Broken (dataAt pkt)) → Cause p pkt m
-        go m (inl z) = rw z fine
-        go m (inr x) = rw (x .0) (option (OptionFault.answer w c k e n (x .1)))
+        go : (o : Outcome) → o ≡ nacksOf rej (fsmFor w p .proto) (walkOf (dataAt pkt)) .outcome → Ended (dataAt pkt) o → Cause p pkt (outcomeNumber o)
+        go o z (taken e) = rw e fine
+        go o z (cutAt b) = rw (z, answer-refused rej (fsmFor w p .proto) (dataAt pkt) b) (option (OptionFault.answer w c k e n b))
 
   echo-cause : Heeded w 9 pkt → Caused p pkt (echoOf (fsmFor w p) (bodyOf pkt))
   echo-cause k =
@@ -281,7 +311,7 @@ module _ (p : Ppp) (pkt : List ℕ) (w : Which) where
       by-le 3 (length q)
       (λ h. by-le (length q) maxPacket (λ l. rw (echo-fine f q s h l) fine)
       (λ l. rw (echo-long f q s h l) (replyLong (ReplyLong.echo w k o (omega (arith, length-body k))))))
-      (λ h. rw (echo-empty f q s h) (lengthShort (LengthShort.echo w k o (omega (arith, length-body k))))))
+      (λ h. rw (echo-empty f q s h) (echoEmpty (EchoEmpty.echo w k o (omega (arith, length-body k))))))
       (λ s. rw (echo-elsewhere f q s) fine)
 
   act-cause : ((c : ℕ) → codeAt pkt ≡ c → Heeded w c pkt) → Caused p pkt (actOf (fsmFor w p) (codeAt pkt) (getD pkt 3 0) (bodyOf pkt))
@@ -313,7 +343,7 @@ module _ (p : Ppp) (pkt : List ℕ) where
   pap-cause e = go (pap-by (p .auth) pkt)
     where
       go : PapBy (p .auth) pkt → Cause p pkt (outcomeNumber (authHandleOf (p .auth) pkt .outcome))
-      go (inl x) = rw (x .1) (lengthShort (LengthShort.pap e (x .0)))
+      go (inl x) = rw (x .1) (papPast e (x .0))
       go (inr x) = rw (x .1) fine
 
   pub cause : Cause p pkt (numberFrom p pkt)

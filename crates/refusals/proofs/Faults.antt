@@ -1,17 +1,18 @@
--- The first option at fault, as document 01 has it, is the one that the walk refuses.
+-- The first option at fault, as document 01 has it, is the one that the walk refuses; where it is cut, at the offset that document 02 wants.
 -- Assumes nothing.
 use mathlib.Core.Path.{_≡_, refl, ap, sym, _∙_}
 use mathlib.Core.Bool.{Bool, true, false, cond, false≢true}
-use mathlib.Core.List.{List}
+use mathlib.Core.List.{List, [], _∷_}
 use mathlib.Core.Logic.{_⊎_, inl, inr}
 use Prim.Native.Nat.{ℕ, zero, suc, _+_, _-_, _≤_, _<_}
+use native.Mathlib.Nat.{add-zero, zero-add, add-assoc}
 use native.Mathlib.Omega.{arith}
 use borrow.Author.Tests.{eqb-true, ltb-true, ltb-false, lt-ltb, le-ltb}
 use lib.Dec.{eqb, ltb}
 use lib.ListN.{length, take, drop, getD, length-drop}
 use Rattle.laws.specs.Same.{same}
 use Rattle.laws.proofs.Cases.{by-test, by-le}
-use Rattle.options.specs.Refusal.{outcomeNumber}
+use Rattle.options.specs.Refusal.{outcomeNumber, outcomeValues}
 use Rattle.options.specs.Options.{done, cut, opt, walkFrom, walkOf, sentBack}
 use Rattle.options.specs.Lcp.{suggestionLcp}
 use Rattle.options.specs.Proto.{startOf, suggestionOf, judgeOf, ownNacked, nacksOf}
@@ -23,6 +24,7 @@ use Rattle.options.specs.declared.proto.Proto.{Proto}
 use Rattle.options.specs.declared.proto.Proto.the-variants.{Lcp, Ipv4cp}
 use Rattle.options.specs.declared.proto.Verdict.{Verdict}
 use Rattle.options.specs.declared.proto.Verdict.the-variants.{Ack, Nack, Rej}
+use Rattle.options.specs.declared.refusal.Outcome.{Outcome}
 use Rattle.options.specs.declared.refusal.Outcome.the-variants.{Done, Refused}
 use Rattle.options.specs.declared.refusal.Refusal.{Refusal}
 use Rattle.options.specs.declared.refusal.Refusal.the-variants.{OptionCut, OptionLong, OptionsMany}
@@ -189,17 +191,45 @@ on-number : (r : Reply) (at : ℕ) {s : List ℕ} {c : ℕ} {d rest : List ℕ} 
     → refusedWith r at s ≡ refusedWith (stepOf r c d) (at + getD s 1 0) rest
 on-number r at k e = ap (λ (q : Reply). outcomeNumber (q .outcome)) (reply-on r at k e)
 
-fault-refused : {w : Which} {top listed n : ℕ} {s : List ℕ} → Fault w top listed s n → (r : Reply) (at : ℕ) → At w top listed r
-    → refusedWith r at s ≡ n
-fault-refused (Fault.cut k) r at i = ap outcomeNumber (reply-cut r at k)
-fault-refused (Fault.long c d rest k h l) r at i = ap outcomeNumber (reply-refused r at k (step-long i c d h l))
-fault-refused (Fault.many c d rest k h l m) r at i = ap outcomeNumber (reply-refused r at k (step-many i c d h l m))
-fault-refused (Fault.lower c d rest k h f) r at i =
-    let j = step-lower i c d h in on-number r at k (j .done) ∙ fault-refused f (stepOf r c d) _ j
-fault-refused (Fault.higher c d rest k h l f) r at i =
-    let j = step-higher i c d h l in on-number r at k (j .done) ∙ fault-refused f (stepOf r c d) _ j
-fault-refused (Fault.another c d rest k h l m f) r at i =
-    let j = step-another i c d h l m in on-number r at k (j .done) ∙ fault-refused f (stepOf r c d) _ j
+-- the refusal of the options s, of which the first is at offset at
+data Stops (s : List ℕ) (at : ℕ) : ℕ → Outcome → Type 0 where
+  at-cut : {m k : ℕ} → Broken s k → m ≡ at + k → Stops s at 7 (Refused (OptionCut m))
+  at-long : Stops s at 8 (Refused OptionLong)
+  at-many : Stops s at 9 (Refused OptionsMany)
+
+stops-number : {s : List ℕ} {at n : ℕ} {o : Outcome} → Stops s at n o → outcomeNumber o ≡ n
+stops-number (at-cut b e) = refl
+stops-number at-long = refl
+stops-number at-many = refl
+
+-- an outcome that tells where the options s are cut
+pub record Told (s : List ℕ) (o : Outcome) : Type 0 where
+  pub offset : ℕ
+  pub first : Broken s offset
+  pub values : outcomeValues o ≡ offset ∷ []
+
+stops-told : {s : List ℕ} {n : ℕ} {o : Outcome} → Stops s 0 n o → n ≡ 7 → Told s o
+stops-told (at-cut {k = k} b z) e = record { offset = k; first = b; values = ap (λ (m : ℕ). m ∷ []) (z ∙ zero-add k) }
+stops-told at-long e = absurd (omega arith)
+stops-told at-many e = absurd (omega arith)
+
+-- behind a whole option
+stops-later : {s : List ℕ} {at n : ℕ} {o : Outcome} {c : ℕ} {d rest : List ℕ} → Whole s c d rest → Stops rest (at + getD s 1 0) n o → Stops s at n o
+stops-later {s} {at} w (at-cut {k = k} b e) = at-cut (Broken.later _ _ _ w b) (e ∙ add-assoc at (getD s 1 0) k)
+stops-later w at-long = at-long
+stops-later w at-many = at-many
+
+fault-stops : {w : Which} {top listed n : ℕ} {s : List ℕ} → Fault w top listed s n → (r : Reply) (at : ℕ) → At w top listed r
+    → Stops s at n (replyOf r (walkFrom at s) .outcome)
+fault-stops (Fault.cut k) r at i = rw (reply-cut r at k) (at-cut (Broken.now k) (sym (add-zero at)))
+fault-stops (Fault.long c d rest k h l) r at i = rw (reply-refused r at k (step-long i c d h l)) at-long
+fault-stops (Fault.many c d rest k h l m) r at i = rw (reply-refused r at k (step-many i c d h l m)) at-many
+fault-stops (Fault.lower c d rest k h f) r at i =
+    let j = step-lower i c d h in rw (reply-on r at k (j .done)) (stops-later k (fault-stops f (stepOf r c d) _ j))
+fault-stops (Fault.higher c d rest k h l f) r at i =
+    let j = step-higher i c d h l in rw (reply-on r at k (j .done)) (stops-later k (fault-stops f (stepOf r c d) _ j))
+fault-stops (Fault.another c d rest k h l m f) r at i =
+    let j = step-another i c d h l m in rw (reply-on r at k (j .done)) (stops-later k (fault-stops f (stepOf r c d) _ j))
 
 abbrev Found : Which → ℕ → ℕ → List ℕ → ℕ → Type 0
 Found w top listed s n = (n ≡ 0) ⊎ Fault w top listed s n
@@ -246,7 +276,11 @@ module _ (p : Proto) (s : List ℕ) where
       kind (Ipv4cp p) = refl
 
   pub request-refused : {n : ℕ} → Fault (kindOf p) 0 0 s n → outcomeNumber (replyOf (freshReply (startOf p)) (walkOf s) .outcome) ≡ n
-  request-refused f = fault-refused f _ 0 start-at
+  request-refused f = stops-number (fault-stops f _ 0 start-at)
+
+  -- where 7 is given, it tells where the option is
+  pub request-tells : Fault (kindOf p) 0 0 s 7 → Told s (replyOf (freshReply (startOf p)) (walkOf s) .outcome)
+  request-tells f = stops-told (fault-stops f _ 0 start-at) refl
 
   pub request-found : (outcomeNumber (replyOf (freshReply (startOf p)) (walkOf s) .outcome) ≡ 0)
       ⊎ Fault (kindOf p) 0 0 s (outcomeNumber (replyOf (freshReply (startOf p)) (walkOf s) .outcome))
@@ -269,53 +303,59 @@ fault-some (Fault.lower c d rest k h f) = omega (arith, k .header)
 fault-some (Fault.higher c d rest k h l f) = omega (arith, k .header)
 fault-some (Fault.another c d rest k h l m f) = omega (arith, k .header)
 
-pub broken-some : {s : List ℕ} → Broken s → 0 < length s
+pub broken-some : {s : List ℕ} {n : ℕ} → Broken s n → 0 < length s
 broken-some (Broken.now k) = k .some
 broken-some (Broken.later c d rest k f) = omega (arith, k .header)
 
 -- ---- a Nack or a Rej
 
+-- a list is taken whole, or it is cut somewhere
+pub data Ended (s : List ℕ) (o : Outcome) : Type 0 where
+  taken : o ≡ Done → Ended s o
+  cutAt : {n : ℕ} → Broken s n → Ended s o
+
 module _ (rej : Bool) where
-  abbrev nackedWith : Proto → ℕ → List ℕ → ℕ
-  nackedWith p at s = outcomeNumber (nacksOf rej p (walkFrom at s) .outcome)
+  abbrev nacked : Proto → ℕ → List ℕ → Outcome
+  nacked p at s = nacksOf rej p (walkFrom at s) .outcome
 
-  nacks-cut : (p : Proto) (at : ℕ) {s : List ℕ} → Cut s → nackedWith p at s ≡ 7
+  nacks-cut : (p : Proto) (at : ℕ) {s : List ℕ} → Cut s → nacked p at s ≡ Refused (OptionCut at)
   unfolding nacksOf
-  nacks-cut p at {s} k = rw (cut-walk at s k) refl
+  nacks-cut p at {s} k = rw (nacked, cut-walk at s k) refl
 
-  nacks-ended : (p : Proto) (at : ℕ) (s : List ℕ) → length s ≤ 0 → nackedWith p at s ≡ 0
+  nacks-ended : (p : Proto) (at : ℕ) (s : List ℕ) → length s ≤ 0 → nacked p at s ≡ Done
   unfolding nacksOf
-  nacks-ended p at s h = rw (walk-done at s h) refl
+  nacks-ended p at s h = rw (nacked, walk-done at s h) refl
 
   nacks-on : (p : Proto) (at : ℕ) {s : List ℕ} {c : ℕ} {d rest : List ℕ} → Whole s c d rest
-      → nackedWith p at s ≡ nackedWith (ownNacked p c d rej) (at + getD s 1 0) rest
+      → nacked p at s ≡ nacked (ownNacked p c d rej) (at + getD s 1 0) rest
   unfolding nacksOf
-  nacks-on p at k = rw (whole-walk at k) refl
+  nacks-on p at k = rw (nacked, whole-walk at k) refl
 
-  broken-refused : {s : List ℕ} → Broken s → (p : Proto) (at : ℕ) → nackedWith p at s ≡ 7
-  broken-refused (Broken.now k) p at = nacks-cut p at k
-  broken-refused (Broken.later c d rest k f) p at = nacks-on p at k ∙ broken-refused f (ownNacked p c d rej) _
+  broken-refused : {s : List ℕ} {n : ℕ} → Broken s n → (p : Proto) (at : ℕ) → nacked p at s ≡ Refused (OptionCut (at + n))
+  broken-refused (Broken.now k) p at = nacks-cut p at k ∙ ap (λ (m : ℕ). Refused (OptionCut m)) (sym (add-zero at))
+  broken-refused {s} (Broken.later {n = n} c d rest k f) p at =
+      nacks-on p at k ∙ broken-refused f (ownNacked p c d rej) (at + getD s 1 0) ∙ ap (λ (m : ℕ). Refused (OptionCut m)) (add-assoc at (getD s 1 0) n)
 
-  broken-found : (n : ℕ) (s : List ℕ) → length s ≤ n → (p : Proto) (at : ℕ)
-      → (nackedWith p at s ≡ 0) ⊎ ((nackedWith p at s ≡ 7) × Broken s)
-  broken-found zero s b p at = inl (nacks-ended p at s b)
+  broken-found : (n : ℕ) (s : List ℕ) → length s ≤ n → (p : Proto) (at : ℕ) → Ended s (nacked p at s)
+  broken-found zero s b p at = taken (nacks-ended p at s b)
   broken-found (suc n) s b p at = by-head (head-of s) (λ t l. broken-found n t (omega arith))
     where
-      on : {c : ℕ} {d rest : List ℕ} → Whole s c d rest
-          → (nackedWith (ownNacked p c d rej) (at + getD s 1 0) rest ≡ 0) ⊎ ((nackedWith (ownNacked p c d rej) (at + getD s 1 0) rest ≡ 7) × Broken rest)
-          → (nackedWith p at s ≡ 0) ⊎ ((nackedWith p at s ≡ 7) × Broken s)
-      on k (inl e) = inl (nacks-on p at k ∙ e)
-      on k (inr e) = inr (nacks-on p at k ∙ e .0, Broken.later _ _ _ k (e .1))
+      on : {c : ℕ} {d rest : List ℕ} → Whole s c d rest → Ended rest (nacked (ownNacked p c d rej) (at + getD s 1 0) rest) → Ended s (nacked p at s)
+      on k (taken e) = taken (nacks-on p at k ∙ e)
+      on k (cutAt b) = cutAt (Broken.later _ _ _ k b)
 
-      by-head : Head s → ((t : List ℕ) → length t < length s → (q : Proto) (at′ : ℕ) → (nackedWith q at′ t ≡ 0) ⊎ ((nackedWith q at′ t ≡ 7) × Broken t))
-          → (nackedWith p at s ≡ 0) ⊎ ((nackedWith p at s ≡ 7) × Broken s)
-      by-head (end h) rec = inl (nacks-ended p at s h)
-      by-head (broken k) rec = inr (nacks-cut p at k, Broken.now k)
+      by-head : Head s → ((t : List ℕ) → length t < length s → (q : Proto) (at′ : ℕ) → Ended t (nacked q at′ t)) → Ended s (nacked p at s)
+      by-head (end h) rec = taken (nacks-ended p at s h)
+      by-head (broken k) rec = cutAt (Broken.now k)
       by-head (whole c d rest k l) rec = on k (rec rest l (ownNacked p c d rej) (at + getD s 1 0))
 
   module _ (p : Proto) (s : List ℕ) where
-    pub answer-refused : Broken s → outcomeNumber (nacksOf rej p (walkOf s) .outcome) ≡ 7
-    answer-refused f = broken-refused f p 0
+    pub answer-refused : {n : ℕ} → Broken s n → nacksOf rej p (walkOf s) .outcome ≡ Refused (OptionCut n)
+    answer-refused {n} f = broken-refused f p 0 ∙ ap (λ (m : ℕ). Refused (OptionCut m)) (zero-add n)
 
-    pub answer-found : (outcomeNumber (nacksOf rej p (walkOf s) .outcome) ≡ 0) ⊎ ((outcomeNumber (nacksOf rej p (walkOf s) .outcome) ≡ 7) × Broken s)
+    pub answer-found : Ended s (nacksOf rej p (walkOf s) .outcome)
     answer-found = broken-found (length s) s (omega arith) p 0
+
+    -- one place is the first
+    pub broken-one : {m n : ℕ} → Broken s m → Broken s n → m ≡ n
+    broken-one f g = ap (λ (o : Outcome). getD (outcomeValues o) 0 0) (sym (answer-refused f) ∙ answer-refused g)

@@ -1,91 +1,87 @@
 -- The refusal table of a received packet: the first row that holds, by what negotiation says of the packet.
 -- Assumes nothing.
-use mathlib.Core.Path.{_≡_, refl, sym, _∙_}
-use mathlib.Core.List.{List, _++_}
+use mathlib.Core.Path.{_≡_, refl, ap, sym, _∙_}
+use mathlib.Core.List.{List, [], _++_}
 use mathlib.Core.Logic.{_⊎_, inl, inr}
-use Prim.Native.Nat.{ℕ, _<_}
+use Prim.Native.Nat.{ℕ}
 use native.Mathlib.Omega.{arith}
-use lib.ListN.{drop}
-use Rattle.options.specs.Refusal.{numberOf}
+use Rattle.options.specs.Refusal.{numberOf, outcomeNumber, outcomeValues}
 use Rattle.options.specs.declared.refusal.Refusal.{Refusal}
-use Rattle.options.specs.declared.refusal.Refusal.the-variants.{NotDead, CredentialsLong, PacketShort, ConfigureShort, EchoEmpty, PapPast, OptionCut, OptionLong, OptionsMany, ReplyLong as LongReply}
+use Rattle.options.specs.declared.refusal.Outcome.{Outcome}
+use Rattle.options.specs.declared.refusal.Outcome.the-variants.{Done, Refused}
+use Rattle.options.proofs.Numbers.{not-given, silent}
+use Rattle.phases.specs.Phases.{receivedOf}
 use Rattle.phases.specs.declared.ppp.Ppp.{Ppp}
 use Rattle.refusals.specs.Rows.{Row}
 use Rattle.refusals.specs.Packets.{OptionFault, packetRows}
-use Rattle.refusals.proofs.Rows.{First}
+use Rattle.refusals.proofs.Rows.{First, Each, Some, none-first, some-first}
 use Rattle.refusals.proofs.Faults.{fault-number}
-use Rattle.refusals.proofs.Causes.{numberFrom, short-refused, length-refused, option-refused, reply-refused, Cause, fine, short, lengthShort, option, replyLong, cause}
+use Rattle.refusals.proofs.Causes.{numberFrom, short-refused, configure-refused, echo-refused, pap-refused, option-refused, option-points, reply-refused, Cause, fine, short, configureShort, echoEmpty, papPast, option, replyLong, cause}
 
 pub refusal-some : (why : Refusal) → numberOf why ≡ 0 → ⊥
-refusal-some NotDead e = omega arith
-refusal-some CredentialsLong e = omega arith
-refusal-some PacketShort e = omega arith
-refusal-some ConfigureShort e = omega arith
-refusal-some EchoEmpty e = omega arith
-refusal-some PapPast e = omega arith
-refusal-some (OptionCut at) e = omega arith
-refusal-some OptionLong e = omega arith
-refusal-some OptionsMany e = omega arith
-refusal-some LongReply e = omega arith
+refusal-some why = not-given why 0 (λ e. omega arith)
+
+-- 7 alone tells more than its number
+outcome-silent : (o : Outcome) → (outcomeNumber o ≡ 7 → ⊥) → outcomeValues o ≡ []
+outcome-silent Done h = refl
+outcome-silent (Refused why) h = silent why h
 
 option-number : {p : Ppp} {pkt : List ℕ} {n : ℕ} → OptionFault p pkt n → (n ≡ 7) ⊎ ((n ≡ 8) ⊎ (n ≡ 9))
 option-number (OptionFault.request w k n x) = fault-number x
 option-number (OptionFault.answer w c k e n x) = inl refl
 
-module _ {A : Type 0} (given : Type 0 → Type 0) (leaves : A → Type 0) (p : Ppp) (pkt : List ℕ) (rest : List (Row A)) (a : A) where
-  -- a packet that is not refused
-  pub packet-fine : {m : ℕ} → ((c : Type 0) → given c → c × (numberFrom p pkt ≡ 0)) → First m a rest → First m a (packetRows given leaves p pkt ++ rest)
-  packet-fine out last =
-      inr (
-        (λ h. omega (arith, short-refused p pkt (out _ h .0), out _ h .1)),
-        inr (
-          (λ h. omega (arith, length-refused p pkt (out _ h .0), out _ h .1)),
-          inr (
-            (λ h. omega (arith, option-refused p pkt (out _ h .0), out _ h .1)),
-            inr (
-              (λ h. omega (arith, option-refused p pkt (out _ h .0), out _ h .1)),
-              inr (
-                (λ h. omega (arith, option-refused p pkt (out _ h .0), out _ h .1)),
-                inr ((λ h. omega (arith, reply-refused p pkt (out _ h .0), out _ h .1)), last),
+module _ {A : Type 0} (given : Type 0 → Type 0) (told : A → List ℕ) (leaves : A → Type 0) (p : Ppp) (pkt : List ℕ) (rest : List (Row A)) (a : A) where
+  abbrev rows : List (Row A)
+  rows = packetRows given told leaves p pkt
+
+  -- what holds of a number for which negotiation refuses holds of each row's
+  each : (P : ℕ → Type 0) → ((n : ℕ) (c : Type 0) → (c → numberFrom p pkt ≡ n) → given c → P n) → Each (λ r. r .when → P (r .number)) rows
+  each P f = (
+    f _ _ (short-refused p pkt),
+    (
+      f _ _ (configure-refused p pkt),
+      (
+        f _ _ (echo-refused p pkt),
+        (
+          f _ _ (λ h. pap-refused p pkt (h .0) (h .1)),
+          (
+            f _ _ (option-refused p pkt),
+            (
+              f _ _ (option-refused p pkt),
+              (
+                f _ _ (option-refused p pkt),
+                (f _ _ (reply-refused p pkt), tt),
               ),
             ),
           ),
         ),
-      )
+      ),
+    ),
+  )
 
-  module _ (out : (c : Type 0) → given c → c) (into : (c : Type 0) → c → given c) (l : leaves a) where
-    -- behind the rows 5 and 6, for a number above them
-    past-length : (m : ℕ) → numberFrom p pkt ≡ m → 6 < m → First m a (drop 2 (packetRows given leaves p pkt) ++ rest) → First m a (packetRows given leaves p pkt ++ rest)
-    past-length m e k f =
-        inr (
-          (λ h. omega (arith, short-refused p pkt (out _ h))),
-          inr ((λ h. omega (arith, length-refused p pkt (out _ h))), f),
-        )
+  -- a packet that is not refused
+  pub packet-fine : {m : ℕ} → ((c : Type 0) → given c → c × (numberFrom p pkt ≡ 0)) → First m a rest → First m a (rows ++ rest)
+  packet-fine {m} out last = none-first m a rest rows refl (each (λ n. n ≡ 0) (λ n c k h. sym (k (out c h .0)) ∙ out c h .1)) last
 
-    -- the option's fault has another number
-    not-option : (m n : ℕ) → numberFrom p pkt ≡ m → (n ≡ m → ⊥) → given (OptionFault p pkt n) → ⊥
-    not-option m n e k h = k (sym (option-refused p pkt (out _ h)) ∙ e)
+  module _ (out : (c : Type 0) → given c → c) (into : (c : Type 0) → c → given c) (l : leaves a) (t : told a ≡ outcomeValues (receivedOf p pkt .outcome)) where
+    quiet : (numberFrom p pkt ≡ 7 → ⊥) → leaves a × (told a ≡ [])
+    quiet h = (l, t ∙ outcome-silent (receivedOf p pkt .outcome) h)
 
-    -- one that is
-    first-option : (m : ℕ) → numberFrom p pkt ≡ m → OptionFault p pkt m → (m ≡ 7) ⊎ ((m ≡ 8) ⊎ (m ≡ 9)) → First m a (packetRows given leaves p pkt ++ rest)
-    first-option m e x (inl n) = past-length m e (omega arith) (inl (n, into _ (rw n at x), l))
-    first-option m e x (inr (inl n)) = past-length m e (omega arith) (inr (not-option m 7 e (λ k. omega arith), inl (n, into _ (rw n at x), l)))
-    first-option m e x (inr (inr n)) =
-        past-length m e (omega arith)
-        (inr (not-option m 7 e (λ k. omega arith), inr (not-option m 8 e (λ k. omega arith), inl (n, into _ (rw n at x), l))))
+    by-option : (m : ℕ) → numberFrom p pkt ≡ m → OptionFault p pkt m → (m ≡ 7) ⊎ ((m ≡ 8) ⊎ (m ≡ 9)) → Some m a rows
+    by-option m e x (inl n) = inr (inr (inr (inr (inl (n, into _ (rw n at x), (l, rw t (option-points p pkt (rw n at x))))))))
+    by-option m e x (inr (inl n)) = inr (inr (inr (inr (inr (inl (n, into _ (rw n at x), quiet (λ z. omega arith)))))))
+    by-option m e x (inr (inr n)) = inr (inr (inr (inr (inr (inr (inl (n, into _ (rw n at x), quiet (λ z. omega arith))))))))
 
-    by-cause : (m : ℕ) → numberFrom p pkt ≡ m → (m ≡ 0 → ⊥) → Cause p pkt m → First m a (packetRows given leaves p pkt ++ rest)
+    by-cause : (m : ℕ) → numberFrom p pkt ≡ m → (m ≡ 0 → ⊥) → Cause p pkt m → Some m a rows
     by-cause m e z fine = absurd (z refl)
-    by-cause m e z (short h) = inl (refl, into _ h, l)
-    by-cause m e z (lengthShort h) = inr ((λ k. omega (arith, short-refused p pkt (out _ k))), inl (refl, into _ h, l))
-    by-cause m e z (option x) = first-option _ e x (option-number x)
-    by-cause m e z (replyLong h) =
-        past-length 10 e (omega arith)
-        (inr (
-          not-option 10 7 e (λ k. omega arith),
-          inr (not-option 10 8 e (λ k. omega arith), inr (not-option 10 9 e (λ k. omega arith), inl (refl, into _ h, l))),
-        ))
+    by-cause m e z (short h) = inl (refl, into _ h, quiet (λ k. omega arith))
+    by-cause m e z (configureShort h) = inr (inl (refl, into _ h, quiet (λ k. omega arith)))
+    by-cause m e z (echoEmpty h) = inr (inr (inl (refl, into _ h, quiet (λ k. omega arith))))
+    by-cause m e z (papPast o h) = inr (inr (inr (inl (refl, into _ (o, h), quiet (λ k. omega arith)))))
+    by-cause m e z (option x) = by-option _ e x (option-number x)
+    by-cause m e z (replyLong h) = inr (inr (inr (inr (inr (inr (inr (inl (refl, into _ h, quiet (λ k. omega arith)))))))))
 
     -- one that is refused
-    pub packet-refused : (m : ℕ) → numberFrom p pkt ≡ m → (m ≡ 0 → ⊥) → First m a (packetRows given leaves p pkt ++ rest)
-    packet-refused m e z = by-cause m e z (rw e at (cause p pkt))
+    pub packet-refused : (m : ℕ) → numberFrom p pkt ≡ m → (m ≡ 0 → ⊥) → First m a (rows ++ rest)
+    packet-refused m e z =
+        some-first m a rest rows refl (each (λ n. m ≡ n) (λ n c k h. sym e ∙ k (out c h))) (by-cause m e z (rw e at (cause p pkt)))

@@ -14,13 +14,13 @@ use Rattle.framing.specs.Writer.{over}
 use Rattle.framing.specs.Reader.{isShort, isComplete, fetched}
 use Rattle.framing.specs.declared.frame_reader.FrameReader.{FrameReader}
 use Rattle.framing.specs.declared.frame_reader.State.the-variants.{Complete}
-use Rattle.options.specs.Refusal.{numberOf, outcomeNumber}
+use Rattle.options.specs.Refusal.{numberOf, outcomeNumber, outcomeValues}
 use Rattle.phases.specs.Phases.{Turn, receivedOf, pollOf, turnOf}
 use Rattle.options.specs.declared.refusal.Outcome.{Outcome}
 use Rattle.options.specs.declared.refusal.Outcome.the-variants.{Done, Refused}
 use Rattle.phases.proofs.Phasing.{turn-refused, turn-done}
 use Rattle.link.specs.Frames.{frames}
-use Rattle.link.specs.Link.{heldBy, linkOf, Poll, declined, written, answeredPoll, isIp, packetPoll, pollLink, Polls, actionNumber, transmitted}
+use Rattle.link.specs.Link.{heldBy, linkOf, Poll, declined, written, answeredPoll, isIp, packetPoll, pollLink, Polls, actionNumber, actionValues, transmitted}
 use Rattle.refusals.specs.Table.{packetIn, Kept, linkMovedOn, pollRows}
 use Rattle.link.specs.declared.refusal.Refusal.the-variants.{Negotiation}
 use Rattle.link.specs.declared.pppos.PPPoS.{PPPoS}
@@ -36,7 +36,7 @@ use Rattle.refusals.proofs.Packets.{refusal-some, packet-fine, packet-r
 -- ---- what a poll comes to
 
 abbrev keptOf : Poll → Kept
-keptOf q = record { link = q .link; tx = q .tx; rx = q .rx }
+keptOf q = record { told = actionValues (q .action); link = q .link; tx = q .tx; rx = q .rx }
 
 -- the frames that a poll has to send
 abbrev pub outOf : PPPoS → List ℕ → List ℕ
@@ -57,7 +57,7 @@ module _ (l : PPPoS) (tx rx : List ℕ) where
   -- the last row
   Last : List ℕ → Poll → Type 0
   Last out q =
-      ((actionNumber (q .action) ≡ 1) × (length tx < length out) × ((q .link ≡ l) × (q .tx ≡ tx) × (q .rx ≡ rx)))
+      ((actionNumber (q .action) ≡ 1) × (length tx < length out) × ((actionValues (q .action) ≡ []) × (q .link ≡ l) × (q .tx ≡ tx) × (q .rx ≡ rx)))
       ⊎ ((length tx < length out → ⊥) × (actionNumber (q .action) ≡ 0))
 
   written-last : (r : FrameReader) (t : Turn) → Last (frames (t .sent)) (written l r t tx rx) × Sent tx (frames (t .sent)) (written l r t tx rx)
@@ -66,7 +66,7 @@ module _ (l : PPPoS) (tx rx : List ℕ) where
       let out = frames (t .sent) in
       cond-by (λ (q : Poll). Last out q × Sent tx out q) (leb (length out) (length tx))
       (λ e. (inr ((λ h. omega (arith, leb-true (length out) (length tx) e)), sent-count (length out) .0), (λ _. (sent-count (length out) .1, refl))))
-      (λ e. (inl (refl, leb-false (length out) (length tx) e, (refl, refl, refl)), (λ z. absurd (omega arith))))
+      (λ e. (inl (refl, leb-false (length out) (length tx) e, (refl, refl, refl, refl)), (λ z. absurd (omega arith))))
 
   -- what was received
   abbrev Got : Type 0
@@ -82,11 +82,13 @@ module _ (l : PPPoS) (tx rx : List ℕ) where
     -- a packet that is not refused
     first-last : (Got → numberFrom (l .ppp) pkt ≡ 0) → Last out q → First (actionNumber (q .action)) (keptOf q) (pollRows l tx rx out)
     unfolding Last
-    first-last z last = inr (held, packet-fine (λ c. Got × c) Dropped (l .ppp) pkt (drop 7 (pollRows l tx rx out)) (keptOf q) (λ c h. (h .1, z (h .0))) last)
+    first-last z last = inr (held, packet-fine (λ c. Got × c) (λ k. k .told) Dropped (l .ppp) pkt (drop 9 (pollRows l tx rx out)) (keptOf q) (λ c h. (h .1, z (h .0))) last)
 
     -- one that is
-    first-refused : (m : ℕ) → Got → numberFrom (l .ppp) pkt ≡ m → (m ≡ 0 → ⊥) → Dropped (keptOf q) → First m (keptOf q) (pollRows l tx rx out)
-    first-refused m g e z d = inr (held, packet-refused (λ c. Got × c) Dropped (l .ppp) pkt (drop 7 (pollRows l tx rx out)) (keptOf q) (λ c h. h .1) (λ c x. (g, x)) d m e z)
+    first-refused : (m : ℕ) → Got → numberFrom (l .ppp) pkt ≡ m → (m ≡ 0 → ⊥) → Dropped (keptOf q) → actionValues (q .action) ≡ outcomeValues (receivedOf (l .ppp) pkt .outcome)
+        → First m (keptOf q) (pollRows l tx rx out)
+    first-refused m g e z d t =
+        inr (held, packet-refused (λ c. Got × c) (λ k. k .told) Dropped (l .ppp) pkt (drop 9 (pollRows l tx rx out)) (keptOf q) (λ c h. h .1) (λ c x. (g, x)) d t m e z)
 
   module _ (held : length rx < l .«frame_reader» .len → ⊥) where
     -- a turn of negotiation that refuses nothing
@@ -110,7 +112,7 @@ module _ (l : PPPoS) (tx rx : List ℕ) where
         (record {
           first =
               first-refused (frames (t .sent)) (declined (Negotiation why) (linkOf r (l .ppp)) tx rx) held (numberOf why) g n (refusal-some why)
-              (refl, refl, refl);
+              (refl, refl, refl) (sym (ap outcomeValues e));
           sent = λ z. absurd (refusal-some why z);
         })
 
@@ -132,13 +134,13 @@ module _ (l : PPPoS) (tx rx : List ℕ) where
       let r = l .«frame_reader» in
       let P = Right l tx rx (outOf l rx) in
       cond-by P (isShort (heldBy l rx))
-      (λ e. record { first = inl (refl, ltb-true _ _ e, (refl, refl, refl)); sent = λ z. absurd (omega arith) })
+      (λ e. record { first = inl (refl, ltb-true _ _ e, (refl, refl, refl, refl)); sent = λ z. absurd (omega arith) })
       (λ e. let held : length rx < r .len → ⊥ = λ h. omega (arith, ltb-false (length rx) (r .len) e) in
       cond-by P (isComplete (r .state))
       (λ s. let g = complete-is (r .state) s in
       cond-by P (ltb (r .len) 3)
       (λ h. record {
-        first = inr (held, inl (refl, (g, omega (arith, length-take (r .len - 3) (drop 1 rx), ltb-true (r .len) 3 h)), (refl, refl, refl)));
+        first = inr (held, inl (refl, (g, omega (arith, length-take (r .len - 3) (drop 1 rx), ltb-true (r .len) 3 h)), ((refl, refl, refl), refl)));
         sent = λ z. absurd (omega arith);
       })
       (λ h. let m : r .len - 2 - 1 ≡ r .len - 3 = omega arith in
@@ -148,7 +150,7 @@ module _ (l : PPPoS) (tx rx : List ℕ) where
 -- ---- as the contract has it
 
 module _ (l : PPPoS) (tx rx : List ℕ) {a : PPPoSAction} {l′ : PPPoS} {tx′ rx′ : List ℕ} (c : Polls (pollLink l tx rx) a l′ tx′ rx′) where
-  pub poll-first : First (actionNumber a) (record { link = l′; tx = tx′; rx = rx′ }) (pollRows l tx rx (outOf l rx))
+  pub poll-first : First (actionNumber a) (record { told = actionValues a; link = l′; tx = tx′; rx = rx′ }) (pollRows l tx rx (outOf l rx))
   poll-first = rw (c .action, c .link, c .transmit, c .receive) (right l tx rx .first)
 
   pub poll-sent : actionNumber a ≡ 0 → (transmitted a ≡ length (outOf l rx)) × (tx′ ≡ over (outOf l rx) tx)

@@ -2,7 +2,7 @@
 -- Assumes nothing.
 use mathlib.Core.Path.{_≡_, sym, _∙_}
 use mathlib.Core.Bool.{Bool, true, not, _&&_}
-use mathlib.Core.List.{List, [], _∷_}
+use mathlib.Core.List.{List, [], _∷_, _++_}
 use mathlib.Core.Logic.{_⊎_, inl, inr}
 use Prim.Native.Nat.{ℕ}
 use borrow.Author.Tests.{eqb-false, not-true}
@@ -69,3 +69,40 @@ module _ {A : Type 0} (n : ℕ) (a : A) where
   -- at the head of all rows
   pub first-exactly : (rs : List (Row A)) → First n a rs → distinct (numbers rs) ≡ true → Exactly ⊥ rs n a
   first-exactly rs f d = first rs ⊥ (λ x. x) f d
+
+-- ---- rows before others
+
+-- of each row
+abbrev pub Each : {A : Type 0} → (Row A → Type 0) → List (Row A) → Type 0
+Each P [] = Unit {0}
+Each P (r ∷ rs) = P r × Each P rs
+
+-- one of the rows holds, and the call gives its number and leaves what it says
+abbrev pub Some : {A : Type 0} → ℕ → A → List (Row A) → Type 0
+Some n a [] = ⊥
+Some n a (r ∷ rs) = ((n ≡ r .number) × r .when × r .leaves a) ⊎ Some n a rs
+
+not-zero : (m : ℕ) (ms : List ℕ) → fresh m ms ≡ true → m ≡ 0 → ⊥
+not-zero m [] d = differs m 0 d
+not-zero m (k ∷ ms) d = not-zero m ms (both (not (eqb m k)) (fresh m ms) d .1)
+
+module _ {A : Type 0} (n : ℕ) (a : A) (rest : List (Row A)) where
+  -- rows that could hold under the number 0 only
+  pub none-first : (rs : List (Row A)) → distinct (numbers rs) ≡ true → Each (λ r. r .when → r .number ≡ 0) rs → First n a rest → First n a (rs ++ rest)
+  none-first [] d e f = f
+  none-first (r ∷ rs) d e f =
+      let t = both (fresh (r .number) (numbers rs)) (distinct (numbers rs)) d in
+      inr ((λ w. not-zero (r .number) (numbers rs) (t .0) (e .0 w)), none-first rs (t .1) (e .1) f)
+
+  among : (rs : List (Row A)) (m : ℕ) → Some n a rs → fresh m (numbers rs) ≡ true → n ≡ m → ⊥
+  among [] m h d z = h
+  among (r ∷ rs) m (inl h) d z = differs m (r .number) (both (not (eqb m (r .number))) (fresh m (numbers rs)) d .0) (sym z ∙ h .0)
+  among (r ∷ rs) m (inr h) d z = among rs m h (both (not (eqb m (r .number))) (fresh m (numbers rs)) d .1) z
+
+  -- where each row could hold under its own number only, the one that holds is the first
+  pub some-first : (rs : List (Row A)) → distinct (numbers rs) ≡ true → Each (λ r. r .when → n ≡ r .number) rs → Some n a rs → First n a (rs ++ rest)
+  some-first [] d e h = absurd h
+  some-first (r ∷ rs) d e (inl h) = inl h
+  some-first (r ∷ rs) d e (inr h) =
+      let t = both (fresh (r .number) (numbers rs)) (distinct (numbers rs)) d in
+      inr ((λ w. among rs (r .number) h (t .0) (e .0 w)), some-first rs (t .1) (e .1) h)

@@ -1,4 +1,4 @@
--- Document 01's refusal table holds of every call of the link and of the status lines: each row is given exactly when it says, and leaves what it says.
+-- The refusal table holds of every call of the link and of the status lines: each row is given exactly when it says, and leaves and tells what it says.
 -- Assumes nothing.
 use mathlib.Core.Path.{_≡_, refl, ap, _∙_}
 use mathlib.Core.List.{List, _++_}
@@ -9,7 +9,7 @@ use Rattle.phases.specs.declared.ppp.Status.{Status}
 use Rattle.framing.specs.Refusal as framing
 use Rattle.framing.specs.declared.refusal.Outcome as framed
 use Rattle.link.specs.Refusal.{outcomeNumber}
-use Rattle.link.specs.Link.{linkOf, Makes, Opens, Consumes, pollLink, Polls, actionNumber, Sends, transmitted}
+use Rattle.link.specs.Link.{linkOf, Makes, Opens, Consumes, pollLink, Polls, actionNumber, actionValues, Sends, transmitted}
 use Rattle.status_lines.specs.Lines.{linesOf, Shows}
 use Rattle.refusals.specs.Rows.{Exactly}
 use Rattle.refusals.specs.Framing.{consumeRows}
@@ -26,7 +26,7 @@ use Rattle.refusals.proofs.Polls.{outOf, poll-first, poll-sent}
 pub record PollHolds (l : PPPoS) (rx : List ℕ) : Type 0 where
   pub out : List ℕ
   pub table : (tx : List ℕ) {a : PPPoSAction} {l′ : PPPoS} {tx′ rx′ : List ℕ} → Polls (pollLink l tx rx) a l′ tx′ rx′
-      → Exactly ⊥ (pollRows l tx rx out) (actionNumber a) (record { link = l′; tx = tx′; rx = rx′ })
+      → Exactly ⊥ (pollRows l tx rx out) (actionNumber a) (record { told = actionValues a; link = l′; tx = tx′; rx = rx′ })
   pub sent : (tx : List ℕ) {a : PPPoSAction} {l′ : PPPoS} {tx′ rx′ : List ℕ} → Polls (pollLink l tx rx) a l′ tx′ rx′
       → actionNumber a ≡ 0 → (transmitted a ≡ length out) × (tx′ ≡ out ++ drop (length out) tx)
 

@@ -1,4 +1,5 @@
--- Document 01's refusal table for a received packet, rows 5 to 10, from its words alone; and for the calls below the link that are handed one.
+-- The refusal table for a received packet, rows 5 and 7 to 13, from the words of documents 01 and 02 alone; and for the calls below the link that are
+-- handed one.
 -- An automaton's `handle` and the walk over its options give these numbers to `turn`; of `handle` itself it is said that it leaves all where it refuses.
 use mathlib.Core.Path.{_≡_}
 use mathlib.Core.Bool.{Bool, false, cond, _&&_}
@@ -101,32 +102,39 @@ pub data Fault (w : Which) : ℕ → ℕ → List ℕ → ℕ → Type 0 where
   another : {top listed n : ℕ} {s : List ℕ} (c : ℕ) (d rest : List ℕ) → Whole s c d rest
       → top ≡ verdictFor w c d → sizeBack (verdictFor w c d) d ≤ 4 → listed < 6 → Fault w top (listed + 1) rest n → Fault w top listed s n
 
--- Nack and Rej lists meet 7 only
-pub data Broken : List ℕ → Type 0 where
-  now : {s : List ℕ} → Cut s → Broken s
-  later : {s : List ℕ} (c : ℕ) (d rest : List ℕ) → Whole s c d rest → Broken rest → Broken s
+-- the first option of s that is under 2 bytes, or longer than the rest, begins n bytes behind the first option byte
+pub data Broken : List ℕ → ℕ → Type 0 where
+  now : {s : List ℕ} → Cut s → Broken s 0
+  later : {s : List ℕ} {n : ℕ} (c : ℕ) (d rest : List ℕ) → Whole s c d rest → Broken rest n → Broken s (getD s 1 0 + n)
+
+-- 02: "the offset of the faulty option, counted from the first option byte" is what is told of the options s; there is one
+pub record Points (s told : List ℕ) : Type 0 where
+  pub offset : ℕ
+  pub first : Broken s offset
+  pub only : {n : ℕ} → Broken s n → n ≡ offset
+  pub values : told ≡ offset ∷ []
 
 -- ---- by row
 
--- PAP with Length + 2 above the packet and Length not (under 6 bytes it is ignored)
+-- row 11, "a configure packet with Length under 4": ConfigureReq, Nack, Rej outside Closed
+pub data ConfigureShort (p : Ppp) (pkt : List ℕ) : Type 0 where
+  configure : (w : Which) (c : ℕ) → Heeded w c pkt → (c ≡ 1) ⊎ ((c ≡ 3) ⊎ (c ≡ 4)) → (stateFor w p ≡ Closed → ⊥)
+      → lengthAt pkt < 4 → ConfigureShort p pkt
+
+-- row 12, "an echo with Length 0": EchoReq in Opened
+pub data EchoEmpty (p : Ppp) (pkt : List ℕ) : Type 0 where
+  echo : (w : Which) → Heeded w 9 pkt → stateFor w p ≡ Opened → lengthAt pkt ≡ 0 → EchoEmpty p pkt
+
+-- row 13, "PAP running past its packet": Length + 2 above the packet and Length not (under 6 bytes it is ignored)
 pub record PapPast (pkt : List ℕ) : Type 0 where
   pub header : 6 ≤ length pkt
   pub within : lengthAt pkt ≤ length pkt
   pub past : length pkt < lengthAt pkt + 2
 
--- row 6
-pub data LengthShort (p : Ppp) (pkt : List ℕ) : Type 0 where
-  -- ConfigureReq, Nack, Rej outside Closed with Length under 4
-  configure : (w : Which) (c : ℕ) → Heeded w c pkt → (c ≡ 1) ⊎ ((c ≡ 3) ⊎ (c ≡ 4)) → (stateFor w p ≡ Closed → ⊥)
-      → lengthAt pkt < 4 → LengthShort p pkt
-  -- EchoReq in Opened with Length 0
-  echo : (w : Which) → Heeded w 9 pkt → stateFor w p ≡ Opened → lengthAt pkt ≡ 0 → LengthShort p pkt
-  pap : protocolAt pkt ≡ 0xC023 → PapPast pkt → LengthShort p pkt
-
--- rows 7, 8, 9: outside Closed, the first option at fault of a ConfigureReq, or of a Nack or Rej
+-- rows 7, 8, 9: outside Closed, the first option at fault of a ConfigureReq; Nack and Rej lists meet 7 only
 pub data OptionFault (p : Ppp) (pkt : List ℕ) : ℕ → Type 0 where
   request : {n : ℕ} (w : Which) → Heeded w 1 pkt → (stateFor w p ≡ Closed → ⊥) → Fault w 0 0 (dataAt pkt) n → OptionFault p pkt n
-  answer : (w : Which) (c : ℕ) → Heeded w c pkt → (c ≡ 3) ⊎ (c ≡ 4) → (stateFor w p ≡ Closed → ⊥) → Broken (dataAt pkt)
+  answer : (w : Which) (c : ℕ) → Heeded w c pkt → (c ≡ 3) ⊎ (c ≡ 4) → (stateFor w p ≡ Closed → ⊥) → {at : ℕ} → Broken (dataAt pkt) at
       → OptionFault p pkt 7
 
 -- row 10, a reply packet above 128 bytes: an echo has Length + 2, a Protocol-Reject the whole packet and 6
@@ -135,22 +143,27 @@ pub data ReplyLong (p : Ppp) (pkt : List ℕ) : Type 0 where
   reject : (protocolAt pkt ≡ 0xC021 → ⊥) → (protocolAt pkt ≡ 0xC023 → ⊥) → (protocolAt pkt ≡ 0x0021 → ⊥) → (protocolAt pkt ≡ 0x8021 → ⊥)
       → 128 < length pkt + 6 → ReplyLong p pkt
 
--- in 01's order; given says what else has to hold of a call that refuses so
-abbrev pub packetRows : {A : Type 0} → (Type 0 → Type 0) → (A → Type 0) → Ppp → List ℕ → List (Row A)
-packetRows given leaves p pkt =
+-- in 01's order, with 11 to 13 where 6 was; given says what else has to hold of a call that refuses so, told is what it tells beside the number
+abbrev pub packetRows : {A : Type 0} → (Type 0 → Type 0) → (A → List ℕ) → (A → Type 0) → Ppp → List ℕ → List (Row A)
+packetRows {A} given told leaves p pkt =
+    let silent : A → Type 0 = λ a. leaves a × (told a ≡ []) in
     -- received packet under 2 bytes
-    row 5 (given (length pkt < 2)) leaves
-    ∷ row 6 (given (LengthShort p pkt)) leaves
-    ∷ row 7 (given (OptionFault p pkt 7)) leaves
-    ∷ row 8 (given (OptionFault p pkt 8)) leaves
-    ∷ row 9 (given (OptionFault p pkt 9)) leaves
-    ∷ row 10 (given (ReplyLong p pkt)) leaves
+    row 5 (given (length pkt < 2)) silent
+    ∷ row 11 (given (ConfigureShort p pkt)) silent
+    ∷ row 12 (given (EchoEmpty p pkt)) silent
+    ∷ row 13 (given ((protocolAt pkt ≡ 0xC023) × PapPast pkt)) silent
+    ∷ row 7 (given (OptionFault p pkt 7)) (λ a. leaves a × Points (dataAt pkt) (told a))
+    ∷ row 8 (given (OptionFault p pkt 8)) silent
+    ∷ row 9 (given (OptionFault p pkt 9)) silent
+    ∷ row 10 (given (ReplyLong p pkt)) silent
     ∷ []
 
 -- ---- calls below the link
 
--- what a call that is handed a packet leaves: its record, whether an echo was answered, and how many packets it sends
+-- what a call that is handed a packet leaves: what it tells beside a refusal's number, its record, whether an echo was answered, and how many
+-- packets it sends
 pub record Answered (A : Type 0) : Type 0 where
+  pub told : List ℕ
   pub kept : A
   pub echoed : Bool
   pub count : ℕ
@@ -161,12 +174,12 @@ Unchanged a t = (t .kept ≡ a) × (t .echoed ≡ false) × (t .count ≡ 0)
 
 -- `Ppp::turn`
 abbrev pub turnRows : Ppp → List ℕ → List (Row (Answered Ppp))
-turnRows p pkt = packetRows (λ c. c) (Unchanged p) p pkt
+turnRows p pkt = packetRows (λ c. c) (λ t. t .told) (Unchanged p) p pkt
 
 -- `OptionFsm::send_protocol_reject`: the reply has the whole packet and 6
 abbrev pub rejectRows : OptionFsm → List ℕ → List (Row (Answered OptionFsm))
-rejectRows f pkt = row 10 (128 < length pkt + 6) (Unchanged f) ∷ []
+rejectRows f pkt = row 10 (128 < length pkt + 6) (λ t. Unchanged f t × (t .told ≡ [])) ∷ []
 
 -- `Auth::handle_pap`, which answers no echo
 abbrev pub papRows : Auth → List ℕ → List (Row (Answered Auth))
-papRows a pkt = row 6 (PapPast pkt) (Unchanged a) ∷ []
+papRows a pkt = row 13 (PapPast pkt) (λ t. Unchanged a t × (t .told ≡ [])) ∷ []

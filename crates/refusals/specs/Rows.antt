@@ -4,7 +4,7 @@ use mathlib.Core.List.{List, [], _∷_}
 use mathlib.Core.Logic.{_⊎_}
 use Prim.Native.Nat.{ℕ}
 
--- a row, for a call that leaves an A
+-- a row, for a call that leaves an A, what it tells beside the number included
 pub record Row (A : Type 0) : Type 1 where
   pub number : ℕ
   pub when : Type 0

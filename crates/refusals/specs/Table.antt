@@ -1,4 +1,4 @@
--- Document 01's refusal table for the link's calls, from its words alone: for each call its rows in 01's order, when each is given and what it leaves.
+-- The refusal table for the link's calls, from the words of documents 01 and 02 alone: for each call its rows in 01's order, when each is given and what it leaves.
 -- A consume has the reader's row, with the link unchanged (Framing.antt); `new` and `open` are also calls of the record below the link.
 -- `status` and `ip_packet` refuse nothing, and `feed` passes refusals over.
 use mathlib.Core.Path.{_≡_}
@@ -78,8 +78,9 @@ linesRows text out = row 1 (length out < length text) (λ w. (w .count ≡ 0) ×
 abbrev pub packetIn : PPPoS → List ℕ → List ℕ
 packetIn l rx = take (l .«frame_reader» .len - 3) (drop 1 rx)
 
--- what a poll leaves: the link and both buffers
+-- what a poll leaves: what it tells beside a refusal's number, the link and both buffers
 pub record Kept : Type 0 where
+  pub told : List ℕ
   pub link : PPPoS
   pub tx : List ℕ
   pub rx : List ℕ
@@ -93,11 +94,11 @@ abbrev pub pollRows : PPPoS → List ℕ → List ℕ → List ℕ → List (Row
 pollRows l tx rx out =
     let received : Type 0 = l .«frame_reader» .state ≡ Complete in
     let pkt = packetIn l rx in
-    let unchanged : Kept → Type 0 = λ k. (k .link ≡ l) × (k .tx ≡ tx) × (k .rx ≡ rx) in
+    let unchanged : Kept → Type 0 = λ k. (k .told ≡ []) × (k .link ≡ l) × (k .tx ≡ tx) × (k .rx ≡ rx) in
     let dropped : Kept → Type 0 = λ k. (k .link ≡ linkMovedOn l) × (k .tx ≡ tx) × (k .rx ≡ rx) in
     -- lent buffer under the kept length | unchanged
     row 3 (length rx < l .«frame_reader» .len) unchanged
     -- what the packet is refused for | frame dropped
-    ∷ (packetRows (λ c. received × c) dropped (l .ppp) pkt
+    ∷ (packetRows (λ c. received × c) (λ k. k .told) dropped (l .ppp) pkt
     -- frames don't fit | everything unchanged, frame still waiting
     ++ (row 1 (length tx < length out) unchanged ∷ []))

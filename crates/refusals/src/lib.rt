@@ -1,1 +1,1 @@
-// Document 01's refusal table: definitions and laws alone.
+// The refusal table of documents 01 and 02: definitions and laws alone.

@@ -28,6 +28,17 @@ fn number(r: Refusal) -> usize {
     link::refusal::number(r) as usize
 }
 
+// What a refusal tells beside its number: the offset of an option that is cut.
+fn offset(r: Refusal) -> usize {
+    match r {
+        Refusal::Negotiation(n) => match n {
+            options::refusal::Refusal::OptionCut(at) => at,
+            _ => NONE,
+        },
+        _ => NONE,
+    }
+}
+
 fn refusal(o: Outcome) -> usize {
     match o {
         Outcome::Done => 0,
@@ -102,7 +113,7 @@ fn action_of(a: PPPoSAction) -> Action {
         PPPoSAction::Declined(r) => Action {
             name: 1,
             a: number(r),
-            b: NONE,
+            b: offset(r),
         },
     }
 }

@@ -250,13 +250,18 @@ impl World {
                 if self.raw {
                     return (format!("panic {number}"), note);
                 }
+                let told = if number == 7 {
+                    format!(" {}", refusal::offset(&rx_before[1..before.r_len - 2]))
+                } else {
+                    String::new()
+                };
                 if number != 1 && before.r_state == 3 {
                     (before.r_state, before.r_len) = (1, 0);
                 }
                 self.link.oracle_set(&before);
                 self.tx[..tx_room].copy_from_slice(&tx_before);
                 self.rx[..rx_room].copy_from_slice(&rx_before);
-                (format!("refuse {number}"), note)
+                (format!("refuse {number}{told}"), note)
             }
         }
     }
