@@ -18,7 +18,7 @@ use Rattle.link.specs.declared.pppos.PPPoSAction.the-variants.{Idle, Rec
 
 -- the cause that a number and its values stand for
 abbrev causeOf : ℕ → List ℕ → Refusal
-causeOf n v = cond (eqb n 3) (Framing BufferShort) (Negotiation (below.causeOf n v))
+causeOf n v = cond (eqb n (numberOf (Framing BufferShort))) (Framing BufferShort) (Negotiation (below.causeOf n v))
 
 record Told (r : Refusal) : Type 0 where
   some : eqb (numberOf r) 0 ≡ false

@@ -10,18 +10,22 @@ use Rattle.options.specs.Refusal.{numberOf, valuesOf}
 use Rattle.options.specs.declared.refusal.Refusal.{Refusal}
 use Rattle.options.specs.declared.refusal.Refusal.the-variants.{NotDead, CredentialsLong, PacketShort, ConfigureShort, EchoEmpty, PapPast, OptionCut, OptionLong, OptionsMany, ReplyLong}
 
--- the cause that a number and its values stand for
+-- the cause r if the number is its, else another
+abbrev orElse : ℕ → Refusal → Refusal → Refusal
+orElse n r other = cond (eqb n (numberOf r)) r other
+
+-- the cause that a number and its values stand for: it names no number, since these are said in `numberOf` alone
 abbrev pub causeOf : ℕ → List ℕ → Refusal
 causeOf n v =
-    cond (eqb n 2) NotDead
-    (cond (eqb n 4) CredentialsLong
-    (cond (eqb n 5) PacketShort
-    (cond (eqb n 11) ConfigureShort
-    (cond (eqb n 12) EchoEmpty
-    (cond (eqb n 13) PapPast
-    (cond (eqb n 7) (OptionCut (getD v 0 0))
-    (cond (eqb n 8) OptionLong
-    (cond (eqb n 9) OptionsMany ReplyLong))))))))
+    orElse n NotDead
+    (orElse n CredentialsLong
+    (orElse n PacketShort
+    (orElse n ConfigureShort
+    (orElse n EchoEmpty
+    (orElse n PapPast
+    (orElse n (OptionCut (getD v 0 0))
+    (orElse n OptionLong
+    (orElse n OptionsMany ReplyLong))))))))
 
 pub cause-back : (r : Refusal) → causeOf (numberOf r) (valuesOf r) ≡ r
 cause-back NotDead = refl

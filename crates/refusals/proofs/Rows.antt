@@ -1,14 +1,14 @@
 -- Rows in their order: from the first that holds, each row exactly.
 -- Assumes nothing.
 use mathlib.Core.Path.{_≡_, sym, _∙_}
-use mathlib.Core.Bool.{Bool, true, not, _&&_}
+use mathlib.Core.Bool.{Bool, true, not, cond, _&&_}
 use mathlib.Core.List.{List, [], _∷_, _++_}
 use mathlib.Core.Logic.{_⊎_, inl, inr}
 use Prim.Native.Nat.{ℕ}
-use borrow.Author.Tests.{eqb-false, not-true}
+use borrow.Author.Tests.{eqb-true, eqb-false, not-true}
 use lib.Dec.{eqb}
-use Rattle.laws.proofs.Cases.{both}
-use Rattle.refusals.specs.Rows.{Row, Exactly}
+use Rattle.laws.proofs.Cases.{by-test, both}
+use Rattle.refusals.specs.Rows.{Row, row, Exactly}
 
 -- n is none of the numbers, nor 0
 abbrev pub fresh : ℕ → List ℕ → Bool
@@ -72,15 +72,19 @@ module _ {A : Type 0} (n : ℕ) (a : A) where
 
 -- ---- rows before others
 
--- of each row
+-- of each row (laws' Each takes no rows: they are of Type 1)
 abbrev pub Each : {A : Type 0} → (Row A → Type 0) → List (Row A) → Type 0
 Each P [] = Unit {0}
 Each P (r ∷ rs) = P r × Each P rs
 
--- one of the rows holds, and the call gives its number and leaves what it says
-abbrev pub Some : {A : Type 0} → ℕ → A → List (Row A) → Type 0
-Some n a [] = ⊥
-Some n a (r ∷ rs) = ((n ≡ r .number) × r .when × r .leaves a) ⊎ Some n a rs
+-- the row of number n; where there is none, one that never holds
+abbrev pub rowOf : {A : Type 0} → ℕ → List (Row A) → Row A
+rowOf n [] = row n ⊥ (λ _. ⊥)
+rowOf n (r ∷ rs) = cond (eqb n (r .number)) r (rowOf n rs)
+
+-- the row of number n holds, and the call leaves what it says
+abbrev pub Holds : {A : Type 0} → ℕ → A → List (Row A) → Type 0
+Holds n a rs = rowOf n rs .when × rowOf n rs .leaves a
 
 not-zero : (m : ℕ) (ms : List ℕ) → fresh m ms ≡ true → m ≡ 0 → ⊥
 not-zero m [] d = differs m 0 d
@@ -94,15 +98,10 @@ module _ {A : Type 0} (n : ℕ) (a : A) (rest : List (Row A)) where
       let t = both (fresh (r .number) (numbers rs)) (distinct (numbers rs)) d in
       inr ((λ w. not-zero (r .number) (numbers rs) (t .0) (e .0 w)), none-first rs (t .1) (e .1) f)
 
-  among : (rs : List (Row A)) (m : ℕ) → Some n a rs → fresh m (numbers rs) ≡ true → n ≡ m → ⊥
-  among [] m h d z = h
-  among (r ∷ rs) m (inl h) d z = differs m (r .number) (both (not (eqb m (r .number))) (fresh m (numbers rs)) d .0) (sym z ∙ h .0)
-  among (r ∷ rs) m (inr h) d z = among rs m h (both (not (eqb m (r .number))) (fresh m (numbers rs)) d .1) z
-
-  -- where each row could hold under its own number only, the one that holds is the first
-  pub some-first : (rs : List (Row A)) → distinct (numbers rs) ≡ true → Each (λ r. r .when → n ≡ r .number) rs → Some n a rs → First n a (rs ++ rest)
-  some-first [] d e h = absurd h
-  some-first (r ∷ rs) d e (inl h) = inl h
-  some-first (r ∷ rs) d e (inr h) =
-      let t = both (fresh (r .number) (numbers rs)) (distinct (numbers rs)) d in
-      inr ((λ w. among rs (r .number) h (t .0) (e .0 w)), some-first rs (t .1) (e .1) h)
+  -- rows that could hold under their own number only: the one of number n, where it holds, is the first
+  pub holds-first : (rs : List (Row A)) → Each (λ r. r .when → n ≡ r .number) rs → Holds n a rs → First n a (rs ++ rest)
+  holds-first [] e h = absurd (h .0)
+  holds-first (r ∷ rs) e h =
+      by-test (eqb n (r .number))
+      (λ t. let k : r .when × r .leaves a = rw t at h in inl (eqb-true n (r .number) t, k .0, k .1))
+      (λ t. let k : Holds n a rs = rw t at h in inr ((λ w. eqb-false n (r .number) t (e .0 w)), holds-first rs (e .1) k))
