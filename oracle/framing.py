@@ -117,6 +117,9 @@ class Framing(Script):
             for at in range(len(whole)):
                 for bad in (whole[:at] + whole[at + 1:], whole[:at] + bytes((whole[at] ^ 0x20,)) + whole[at + 1:]):
                     self.feed(self.reader('a byte lost, a byte changed, and a good frame behind', 24), bad + whole)
+            for at in range(1, len(whole)):
+                for behind in (whole, whole[1:]):
+                    self.feed(self.reader('an abort at each place, and a good frame behind', 24), whole[:at] + b'\x7d\x7e' + behind)
         for first in b'\x03\x41\x7d\x7e\xff':
             for second in b'\x03\x41\x7d\x7e\xff':
                 reader = self.reader('two bytes inside a frame, and a good frame behind', 10)

@@ -95,7 +95,8 @@ class Reader:
 
     def end(self):
         kept = self.buf[:self.kept]
-        good = self.kept >= 3 and kept[0] == 0x03 and fcs(0x00FF, kept) == 0xF0B8
+        aborted = self.standard and self.escape
+        good = not aborted and self.kept >= 3 and kept[0] == 0x03 and fcs(0x00FF, kept) == 0xF0B8
         self.state = 'complete' if good else 'address'
         if self.standard:
             self.escape = False

@@ -70,6 +70,7 @@ class Script:
             self.dice.bytes(self.dice.below(20)),
             b'\x7e' * self.dice.between(1, 4),
             b'\x7e\xff' + stuffed(self.asyncmap(), body) + b'\x7e',
+            b'\x7e\xff' + stuffed(self.asyncmap(), body) + b'\x7d\x7e',
             b'\x7e\x7d\xdf' + stuffed(0, checked(b'\x03\x41')) + b'\x7e',
             b'\x7e\xff\x03\x7d\x7e\xff' + stuffed(0, checked(b'\x03\x42'))[1:] + b'\x7e',
             b'\x7e\xff' + b'\x7d' * self.dice.between(1, 3) + b'\x41\x7e',

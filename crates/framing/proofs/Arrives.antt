@@ -60,16 +60,16 @@ unfolding step
 address k buf = refl
 
 -- an address, then w with no flag in it
-module _ (k : Reading) (buf w : List ℕ) (noFlag : Without 0x7E w) (noDouble : isCrate k && doubled false w ≡ false) (noAbort : aborted false w ≡ false) where
+module _ (k : Reading) (buf w : List ℕ) (noFlag : Without 0x7E w) (noDouble : isCrate k && doubled false w ≡ false) where
   pub enters : length (unescaped false w) ≤ length buf
-      → Quiet step full (waiting k buf) (0xFF ∷ w) (inside k false (length (unescaped false w)) (sets buf 0 (unescaped false w)))
+      → Quiet step full (waiting k buf) (0xFF ∷ w) (inside k (aborted false w) (length (unescaped false w)) (sets buf 0 (unescaped false w)))
   enters h =
       quiet-step step full (inside k false 0 buf) refl (address k buf)
-      (simp (zero-add, noAbort) at (keeps k false w 0 buf noFlag noDouble (simp zero-add h)))
+      (simp zero-add at (keeps k false w 0 buf noFlag noDouble (simp zero-add h)))
 
   -- off which a good frame is read
-  pub lands : (p : List ℕ) → unescaped false w ≡ controlOn p → length p + 3 ≤ length buf → Arrives (waiting k buf) ((0xFF ∷ w) ++ (0x7E ∷ [])) p
-  lands p u h =
+  pub lands : (p : List ℕ) → aborted false w ≡ false → unescaped false w ≡ controlOn p → length p + 3 ≤ length buf → Arrives (waiting k buf) ((0xFF ∷ w) ++ (0x7E ∷ [])) p
+  lands p noAbort u h =
       let fits : length (controlOn p) ≤ length buf = omega (arith, control-length p) in
       let c = closes k (controlOn p) buf fits (control-good p) in
       record {
@@ -77,7 +77,7 @@ module _ (k : Reading) (buf w : List ℕ) (noFlag : Without 0x7E w) (noDouble : 
         last = 0x7E;
         before = inside k false (length (controlOn p)) (sets buf 0 (controlOn p));
         whole = refl;
-        quiet = rw u at (enters (rw u fits));
+        quiet = rw (noAbort, u) at (enters (rw u fits));
         filled = ap full c;
         kept = ap (λ (t : Held). t .reader .len) c ∙ control-length p;
         packet = ap packetOf c ∙ control-packet k p buf h;
@@ -114,7 +114,7 @@ arrives s m p i h =
     opened s (stuffed m (fields p) ++ (0x7E ∷ [])) p i
     (rw (stuffed-fields m p)
     (lands k (s .buf) w (stuffed-without m (controlOn p)) (ap (λ t. isCrate k && t) (doubled-stuffed m (controlOn p)) ∙ and-false (isCrate k))
-    (aborted-stuffed m (controlOn p)) p (unescaped-stuffed m (controlOn p)) h))
+    p (aborted-stuffed m (controlOn p)) (unescaped-stuffed m (controlOn p)) h))
 
 -- ---- what is heard, and what one call consumes
 

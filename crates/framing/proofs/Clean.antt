@@ -1,18 +1,19 @@
--- In standard reading a frame's end clears the escape and keeps nothing of a frame that is not good; so outside a frame there is
--- never an escape, whatever the calls.
+-- In standard reading a frame's end clears the escape and keeps nothing of a frame that is not good, an aborted one among them; so
+-- outside a frame there is never an escape, whatever the calls.
 -- Assumes nothing.
-use mathlib.Core.Path.{_≡_, refl, sym, subst⁻¹}
-use mathlib.Core.Bool.{true, false, and-false, false≢true}
+use mathlib.Core.Path.{_≡_, refl, sym, ap, _∙_, subst⁻¹}
+use mathlib.Core.Bool.{true, false, not, _&&_, and-true, and-false, false≢true}
 use mathlib.Core.List.{List, [], _∷_}
 use Prim.Native.Nat.{ℕ}
 use lib.Dec.{ltb, eqb}
 use lib.ListN.{length}
-use Rattle.laws.proofs.Cases.{cond-by, cond-all}
-use Rattle.framing.specs.Reader.{isComplete, freshReader, moved, marks, escapeAfter, faultOf, isGood, ended, Held, held, stepBy, step, full, Fed, fed, isShort, consumed, Consumes, Receives}
-use Rattle.framing.specs.Clean.{EndsClean, CleanIn, Clean}
+use Rattle.laws.proofs.Cases.{by-test, cond-by, cond-all}
+use Rattle.framing.specs.Reader.{isCrate, isComplete, freshReader, moved, marks, escapeAfter, aborts, faultOf, isGood, ended, Held, held, stepBy, step, full, Fed, fed, isShort, consumed, Consumes, Receives}
+use Rattle.framing.specs.Clean.{isWhole, EndsClean, CleanIn, Clean}
 use Rattle.framing.specs.declared.refusal.Outcome.{Outcome}
 use Rattle.framing.specs.declared.frame_reader.State.{State}
 use Rattle.framing.specs.declared.frame_reader.State.the-variants.{Start, Address, Data, Complete}
+use Rattle.framing.specs.declared.frame_reader.Reading.{Reading}
 use Rattle.framing.specs.declared.frame_reader.Reading.the-variants.{Standard}
 use Rattle.framing.specs.declared.frame_reader.FrameReader.{FrameReader}
 use Rattle.framing.specs.declared.frame_reader.Got.{Got}
@@ -23,11 +24,21 @@ module _ (r : FrameReader) (standard : r .reading ≡ Standard) where
   escape-cleared : escapeAfter r ≡ false
   escape-cleared = rw standard (and-false (r .escape))
 
+  escape-aborts : aborts r ≡ r .escape
+  escape-aborts = ap (λ (k : Reading). r .escape && not (isCrate k)) standard ∙ and-true (r .escape)
+
+  good-whole : (buf : List ℕ) → isGood (faultOf r buf) ≡ isWhole (held r buf)
+  good-whole buf = rw escape-aborts (by-test (r .escape) (λ e. rw e) (λ e. rw e))
+
   end-clean : (buf : List ℕ) → EndsClean (held r buf) (held (ended r buf) buf)
   end-clean buf =
       cond-by (λ (t : FrameReader). EndsClean (held r buf) (held t buf)) (isGood (faultOf r buf))
-      (λ g. record { judged = sym g; cleared = escape-cleared; kept = refl })
-      (λ g. record { judged = sym g; cleared = escape-cleared; kept = rw standard })
+      (λ g.
+      let w = sym (good-whole buf) ∙ g in
+      record { state = rw w; kept = rw w; cleared = escape-cleared; bytes = refl })
+      (λ g.
+      let w = sym (good-whole buf) ∙ g in
+      record { state = rw w; kept = rw (w, standard); cleared = escape-cleared; bytes = refl })
 
 -- 7E inside a frame
 pub ends-clean : (s : Held) → s .reader .reading ≡ Standard → s .reader .state ≡ Data → EndsClean s (step s 0x7E)

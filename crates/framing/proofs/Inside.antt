@@ -123,6 +123,11 @@ module _ (k : Reading) (e : Bool) (w : List ℕ) (n : ℕ) (buf : List ℕ) (noF
 
 -- ---- the closing flag
 
+-- an escape is open: the frame is aborted whatever is kept, except in crate reading
+pub closes-open : (k : Reading) (n : ℕ) (buf : List ℕ) → isCrate k ≡ false → step (inside k true n buf) 0x7E ≡ held (next (freshReader k) Address false 0) buf
+unfolding step
+closes-open k n buf e = rw e
+
 -- the reader that keeps a good frame
 abbrev pub whole : Reading → List ℕ → List ℕ → Held
 whole k l buf = held (next (freshReader k) Complete false (length l)) (sets buf 0 l)

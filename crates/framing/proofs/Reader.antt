@@ -13,13 +13,14 @@ use lib.Seq.{drop-cons, take-suc-set}
 use Rattle.laws.specs.Quiet.{Quiet, none, more}
 use Rattle.laws.proofs.Cases.{by-test, by-le, cond-by, cond-all, cond-both}
 use Rattle.laws.proofs.Parts.{same-part}
-use Rattle.framing.specs.Reader.{isCrate, isComplete, freshReader, next, moved, marks, plainOf, escapeAfter, lenAfter, faultIn, faultOf, isGood, ended, Held, held, stored, stepBy, step, full, Fed, fed, isShort, consumed, Consumes, Framed, packetOf, gotNumber, Receives}
+use Rattle.framing.specs.Reader.{isCrate, isComplete, freshReader, next, moved, marks, plainOf, escapeAfter, lenAfter, aborts, faultIn, faultOf, isGood, ended, Held, held, stored, stepBy, step, full, Fed, fed, isShort, consumed, Consumes, Framed, packetOf, gotNumber, Receives}
 use Rattle.framing.specs.declared.refusal.Refusal.the-variants.{BufferShort}
 use Rattle.framing.specs.declared.refusal.Outcome.{Outcome}
 use Rattle.framing.specs.declared.refusal.Outcome.the-variants.{Done, Refused}
 use Rattle.framing.specs.declared.frame_reader.State.{State}
 use Rattle.framing.specs.declared.frame_reader.State.the-variants.{Start, Address, Data, Complete}
 use Rattle.framing.specs.declared.frame_reader.FrameReader.{FrameReader}
+use Rattle.framing.specs.declared.frame_reader.Fault.the-variants.{Aborted}
 use Rattle.framing.specs.declared.frame_reader.Got.{Got}
 use Rattle.framing.specs.declared.frame_reader.Reading.{Reading}
 
@@ -73,6 +74,10 @@ good-long n l e =
 never : {P : Type 0} → false ≡ true → P
 never e = absurd (false≢true e)
 
+-- where a frame end is good, so are the kept bytes
+good-kept : (r : FrameReader) (buf : List ℕ) → isGood (faultOf r buf) ≡ true → isGood (faultIn (take (r .len) buf)) ≡ true
+good-kept r buf e = by-test (aborts r) (λ t. never (rw t at e)) (λ t. rw t at e)
+
 stepBy-framed : (st : State) (s : Held) (b : ℕ) → Framed (s .reader) → Framed (stepBy st s b .reader)
 stepBy-framed Start s b h = cond-all (λ (t : State). Framed (moved (s .reader) t)) (eqb b 0x7E) never never
 stepBy-framed Address s b h =
@@ -80,7 +85,7 @@ stepBy-framed Address s b h =
     (cond-all (λ (t : State). Framed (moved (s .reader) t)) (eqb b 0x7E) never never)
 stepBy-framed Data s b h =
     cond-all (λ (t : Held). Framed (t .reader)) (eqb b 0x7E)
-    (cond-by Framed (isGood (faultOf (s .reader) (s .buf))) (λ t _. good-long (s .reader .len) (s .buf) t) (λ _. never))
+    (cond-by Framed (isGood (faultOf (s .reader) (s .buf))) (λ t _. good-long (s .reader .len) (s .buf) (good-kept (s .reader) (s .buf) t)) (λ _. never))
     (cond-all (λ (t : Held). Framed (t .reader)) (marks (s .reader) b) never
     (cond-all (λ (t : Held). Framed (t .reader)) (ltb (s .reader .len) (length (s .buf))) never never))
 stepBy-framed Complete s b h = h
@@ -250,7 +255,7 @@ module _ (x y : List ℕ) (e : length x ≡ length y) where
 
   ended-alike : (r : FrameReader) → take (r .len) x ≡ take (r .len) y → Alike (held (ended r x) x) (held (ended r y) y)
   ended-alike r q =
-      cond-both (λ (a b : FrameReader). Alike (held a x) (held b y)) (ap (λ (l : List ℕ). isGood (faultIn l)) q)
+      cond-both (λ (a b : FrameReader). Alike (held a x) (held b y)) (ap (λ (l : List ℕ). isGood (cond (aborts r) Aborted (faultIn l))) q)
       (λ _. pair (next r Complete (escapeAfter r) (r .len)) q)
       (λ _. pair (next r Address (escapeAfter r) (lenAfter r)) (cond-all (λ (n : ℕ). take n x ≡ take n y) (isCrate (r .reading)) q refl))
 

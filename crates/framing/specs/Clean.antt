@@ -1,18 +1,24 @@
--- Document 01, 'Standard reading', of a frame's end: 7E ends the frame even with an escape pending, and the frame is judged as usual;
--- one that is not good keeps nothing; any one clears the escape.
+-- Documents 01 and 02, 'Standard reading', of a frame's end: with an escape pending the frame is discarded, whatever is kept and whatever its
+-- check; without one it is judged as usual. One that is not good keeps nothing and is the flag before the next frame; any one clears the escape.
 use mathlib.Core.Path.{_≡_}
-use mathlib.Core.Bool.{false, cond}
-use Rattle.framing.specs.Reader.{faultOf, isGood, Held, full}
+use mathlib.Core.Bool.{Bool, false, cond, not, _&&_}
+use lib.ListN.{take}
+use Rattle.framing.specs.Reader.{faultIn, isGood, Held}
 use Rattle.framing.specs.declared.frame_reader.State.{State}
 use Rattle.framing.specs.declared.frame_reader.State.the-variants.{Start, Address, Data, Complete}
 use Rattle.framing.specs.declared.frame_reader.Reading.the-variants.{Standard}
 use Rattle.framing.specs.declared.frame_reader.FrameReader.{FrameReader}
 
+-- no escape is pending, and nothing is wrong with the kept bytes
+abbrev pub isWhole : Held → Bool
+isWhole s = not (s .reader .escape) && isGood (faultIn (take (s .reader .len) (s .buf)))
+
 -- a frame's end takes s to t
 pub record EndsClean (s t : Held) : Type 0 where
-  pub judged : full t ≡ isGood (faultOf (s .reader) (s .buf))
+  pub state : t .reader .state ≡ cond (isWhole s) Complete Address
+  pub kept : t .reader .len ≡ cond (isWhole s) (s .reader .len) 0
   pub cleared : t .reader .escape ≡ false
-  pub kept : t .reader .len ≡ cond (full t) (s .reader .len) 0
+  pub bytes : t .buf ≡ s .buf
 
 -- an escape is pending inside a frame only, and bytes are kept there and of a complete frame only
 abbrev pub CleanIn : State → FrameReader → Type 0

@@ -19,14 +19,13 @@ doubled o (b ∷ w) = (o && eqb b 0x7D) || doubled (not o && eqb b 0x7D) w
 abbrev pub Unflagged : ℕ → List ℕ → Type 0
 Unflagged m = Each (λ b. flagged m b ≡ false)
 
--- what may stand between two flags: no flag, no byte that the map flags (our reader has no map and removes none), no escape right
--- before the closing flag, and in crate reading no 7D right behind 7D
+-- what may stand between two flags: no flag, and no byte that the map flags (our reader has no map and removes none); in crate reading
+-- also no escape right before the closing flag, and no 7D right behind 7D
 pub record Between (k : Reading) (m : ℕ) (w : List ℕ) : Type 0 where
   pub bytes : Bytes w
   pub no-flag : Without 0x7E w
   pub no-removal : Unflagged m w
-  pub no-abort : aborted false w ≡ false
-  pub no-double : (isCrate k && doubled false w) ≡ false
+  pub no-habit : (isCrate k && (aborted false w || doubled false w)) ≡ false
 
 -- a valid frame with the information p, whose address is sent as it is, and room bytes hold what is kept of it
 pub record Readable (m room : ℕ) (w p : List ℕ) : Type 0 where

@@ -15,7 +15,7 @@ use Rattle.framing.specs.declared.frame_reader.Reading.{Reading}
 use Rattle.framing.specs.declared.frame_reader.Reading.the-variants.{Crate, Standard}
 use Rattle.framing.specs.declared.frame_reader.FrameReader.{FrameReader}
 use Rattle.framing.specs.declared.frame_reader.Fault.{Fault}
-use Rattle.framing.specs.declared.frame_reader.Fault.the-variants.{None, Short, Control, Check}
+use Rattle.framing.specs.declared.frame_reader.Fault.the-variants.{None, Aborted, Short, Control, Check}
 use Rattle.framing.specs.declared.frame_reader.Got.{Got}
 use Rattle.framing.specs.declared.frame_reader.Got.the-variants.{Packet, Refused, Nothing}
 
@@ -54,6 +54,10 @@ escapeAfter r = r .escape && isCrate (r .reading)
 abbrev pub lenAfter : FrameReader → ℕ
 lenAfter r = cond (isCrate (r .reading)) (r .len) 0
 
+-- an escape that is pending at a frame end aborts the frame, but not in crate reading
+abbrev pub aborts : FrameReader → Bool
+aborts r = r .escape && not (isCrate (r .reading))
+
 -- what is wrong with the kept bytes: under three of them, the first not 03, or the residue wrong
 unfoldable pub faultIn : List ℕ → Fault
 faultIn kept =
@@ -61,12 +65,13 @@ faultIn kept =
     (cond (not (eqb (getD kept 0 0) 0x03)) Control
     (cond (not (eqb (fcs 0x00FF kept) 0xF0B8)) Check None))
 
--- why a frame end gives no frame
+-- why a frame end gives no frame; of an aborted one the kept bytes are not looked at
 abbrev pub faultOf : FrameReader → List ℕ → Fault
-faultOf r buf = faultIn (take (r .len) buf)
+faultOf r buf = cond (aborts r) Aborted (faultIn (take (r .len) buf))
 
 abbrev pub isGood : Fault → Bool
 isGood None = true
+isGood Aborted = false
 isGood Short = false
 isGood Control = false
 isGood Check = false

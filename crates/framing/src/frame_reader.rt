@@ -2,7 +2,7 @@
 ghost use mathlib.Core.Path.{_≡_};
 ghost use Prim.Native.Nat.{_≤_};
 ghost use lib.ListN.{length};
-ghost use Rattle.framing.specs.Reader.{isCrate, isComplete, freshReader, next, moved, marks, plainOf, escapeAfter, lenAfter, faultOf, isGood, ended, held, stored, inData, step, Consumes, Receives};
+ghost use Rattle.framing.specs.Reader.{isCrate, isComplete, freshReader, next, moved, marks, plainOf, escapeAfter, lenAfter, aborts, faultOf, isGood, ended, held, stored, inData, step, Consumes, Receives};
 use crate::crc::crc16;
 use crate::refusal::Outcome;
 use crate::refusal::Refusal;
@@ -36,6 +36,8 @@ pub struct Consumed {
 // Why a frame end gives no frame.
 pub enum Fault {
     None,
+    // An escape right before the flag, in standard reading.
+    Aborted,
     // Under three bytes are kept.
     Short,
     // The first is not 03.
@@ -81,6 +83,7 @@ fn is_good(f: Fault) -> bool
 {
     match f {
         Fault::None => true,
+        Fault::Aborted => false,
         Fault::Short => false,
         Fault::Control => false,
         Fault::Check => false,
@@ -160,11 +163,23 @@ impl FrameReader {
         if is_crate(k) { len } else { 0 }
     }
 
+    // In standard reading an escape that is pending at a frame's end aborts the frame.
+    fn aborts(self) -> bool
+        ensures { λ r. ⌜ r ≡ aborts self ⌝ }
+    {
+        let k = self.reading;
+        let escape = self.escape;
+        if is_crate(k) { false } else { escape }
+    }
+
     // What is wrong with the frame that ends here; the check value is worked out last.
     fn fault(self, buf: &[u8]) -> Fault
         requires { ⌜ self .len ≤ length (now buf) ⌝ }
         ensures { λ f. ⌜ f ≡ faultOf self (now (buf .entry)) ⌝ }
     {
+        if self.aborts() {
+            return Fault::Aborted;
+        }
         let len = self.len;
         if len < 3 {
             return Fault::Short;

@@ -1,7 +1,7 @@
 -- The calls of frame_reader.rs, one by one, are those of our reader in crate reading.
 -- Assumes nothing.
 use mathlib.Core.Path.{_≡_, refl, ap, _∙_}
-use mathlib.Core.Bool.{Bool, true, false, cond, not, _&&_, _||_}
+use mathlib.Core.Bool.{Bool, true, false, cond, not, _&&_, _||_, and-false}
 use mathlib.Core.List.{List, [], _∷_}
 use Prim.Native.Nat.{ℕ, suc, _+_, _-_, _^_, _≤_, _<_}
 use native.Mathlib.Omega.{arith}
@@ -15,6 +15,7 @@ use Rattle.laws.proofs.Cases.{by-le, by-test, cond-all}
 use Rattle.framing.specs.Refusal.{outcomeNumber}
 use Rattle.framing.specs.Reader as ours
 use Rattle.framing.specs.declared.frame_reader.State as reading
+use Rattle.framing.specs.declared.frame_reader.Reading.{Reading}
 use Rattle.framing.specs.declared.frame_reader.Reading.the-variants.{Crate}
 use Rattle.framing.specs.declared.frame_reader.FrameReader as reader
 use Rattle.framing.specs.declared.frame_reader.Fault.the-variants.{None, Short, Control, Check}
@@ -48,11 +49,14 @@ module _ (r : reader.FrameReader) (buf : List ℕ) (within : r .len ≤ length b
   kept-length : length (take (r .len) buf) ≡ r .len
   kept-length = omega (arith, length-take (r .len) buf)
 
+  unaborted : ours.aborts r ≡ false
+  unaborted = ap (λ (k : Reading). r .escape && not (ours.isCrate k)) crate ∙ and-false (r .escape)
+
   -- the three tests, with the crate's check value
   fault-is : ours.faultOf r buf
       ≡ cond (ltb (r .len) 3) Short (cond (not (eqb (getD (take (r .len) buf) 0 0) 0x03)) Control (cond (not (eqb (crc16 0x00FF (take (r .len) buf)) 0xF0B8)) Check None))
   unfolding ours.faultIn
-  fault-is = rw (kept-length, same-crc16 0x00FF (take (r .len) buf) (each-take (λ b. b < 256) (r .len) buf bytes)) refl
+  fault-is = rw (unaborted, kept-length, same-crc16 0x00FF (take (r .len) buf) (each-take (λ b. b < 256) (r .len) buf bytes)) refl
 
   end-is : endOf (viewReader r) buf ≡ returns (fedOf (ours.held (ours.ended r buf) buf))
   end-is =

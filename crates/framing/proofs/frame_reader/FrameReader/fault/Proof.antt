@@ -20,45 +20,60 @@ long : (len : ℕ) (buf : List ℕ) → len ≤ length buf → 3 ≤ len
 unfolding faultIn
 long len buf h k = rw (length-take-le len buf h, le-ltb len 3 k, getD-take len buf 0 0 (omega arith))
 
-returns : tie.Need-returns
-unfolding faultIn
-returns c = rw (length-take-le _ _ (c .before .before .pre), lt-ltb _ _ (c .if1 .taken))
+aborts-requires : tie.Need-aborts-requires
+aborts-requires c κs = search needs
 
-shared-slice-read-if2 : tie.Need-shared-slice-read-if2
-shared-slice-read-if2 c = search needs
+returns : tie.Need-returns
+returns c = rw (← c .before .aborts .ensures, c .if1 .taken)
 
 returns-2 : tie.Need-returns-2
+unfolding faultIn
 returns-2 c =
     let at = c .before .before in
-    let a = at .before .before in
-    rw (long (a .args .self .len) (a .args .buf .now) (a .pre) (at .if1 .left), ne-eqb _ _ (c .if2 .taken))
+    rw (← at .aborts .ensures, c .before .if1 .left, length-take-le _ _ (at .before .before .pre), lt-ltb _ _ (c .if2 .taken))
 
-slice-aggregate-crc16 : tie.Need-slice-aggregate-crc16
-slice-aggregate-crc16 c = let at = c .before .before .before .before .before in sym (length-take-le (at .args .self .len) (at .args .buf .now) (at .pre))
-
-crc16-requires : tie.Need-crc16-requires
-crc16-requires c κs = search needs
+shared-slice-read-if3 : tie.Need-shared-slice-read-if3
+shared-slice-read-if3 c = search needs
 
 returns-3 : tie.Need-returns-3
 returns-3 c =
-    let at = c .before .before .before .before .before in
+    let at = c .before .before in
     let a = at .before .before in
-    rw (long (a .args .self .len) (a .args .buf .now) (a .pre) (at .if1 .left), eq-eqb _ _ (c .before .before .before .if2 .left), ← c .before .crc16 .ensures, ne-eqb _ _ (c .if3 .taken))
+    let s = a .before .before in
+    rw (← a .aborts .ensures, at .before .if1 .left, long (s .args .self .len) (s .args .buf .now) (s .pre) (at .if2 .left), ne-eqb _ _ (c .if3 .taken))
+
+slice-aggregate-crc16 : tie.Need-slice-aggregate-crc16
+slice-aggregate-crc16 c =
+    let s = c .before .before .before .before .before .before .before in
+    sym (length-take-le (s .args .self .len) (s .args .buf .now) (s .pre))
+
+crc16-requires : tie.Need-crc16-requires
+crc16-requires c κs = search needs
 
 returns-4 : tie.Need-returns-4
 returns-4 c =
     let at = c .before .before .before .before .before in
     let a = at .before .before in
-    rw (long (a .args .self .len) (a .args .buf .now) (a .pre) (at .if1 .left), eq-eqb _ _ (c .before .before .before .if2 .left), ← c .before .crc16 .ensures, eq-eqb _ _ (c .if3 .left))
+    let s = a .before .before in
+    rw (← a .aborts .ensures, at .before .if1 .left, long (s .args .self .len) (s .args .buf .now) (s .pre) (at .if2 .left), eq-eqb _ _ (c .before .before .before .if3 .left), ← c .before .crc16 .ensures, ne-eqb _ _ (c .if4 .taken))
+
+returns-5 : tie.Need-returns-5
+returns-5 c =
+    let at = c .before .before .before .before .before in
+    let a = at .before .before in
+    let s = a .before .before in
+    rw (← a .aborts .ensures, at .before .if1 .left, long (s .args .self .len) (s .args .buf .now) (s .pre) (at .if2 .left), eq-eqb _ _ (c .before .before .before .if3 .left), ← c .before .crc16 .ensures, eq-eqb _ _ (c .if4 .left))
 
 pub fault-spec : {M : Type 1} → statement M
 fault-spec =
     tie.close
     (tie.spec
+    aborts-requires
     returns
-    shared-slice-read-if2
     returns-2
+    shared-slice-read-if3
+    returns-3
     slice-aggregate-crc16
     crc16-requires
-    returns-3
-    returns-4)
+    returns-4
+    returns-5)
