@@ -9,7 +9,7 @@ use lib.Dec.{ltb, eqb}
 use lib.ListN.{length}
 use Rattle.laws.proofs.Cases.{by-test, cond-by, cond-all}
 use Rattle.framing.specs.Reader.{isCrate, isComplete, freshReader, moved, marks, escapeAfter, aborts, faultOf, isGood, ended, Held, held, stepBy, step, full, Fed, fed, isShort, consumed, Consumes, Receives}
-use Rattle.framing.specs.Clean.{isWhole, EndsClean, CleanIn, Clean}
+use Rattle.framing.specs.Clean.{endsGood, EndsClean, CleanIn, Clean}
 use Rattle.framing.specs.declared.refusal.Outcome.{Outcome}
 use Rattle.framing.specs.declared.frame_reader.State.{State}
 use Rattle.framing.specs.declared.frame_reader.State.the-variants.{Start, Address, Data, Complete}
@@ -27,17 +27,17 @@ module _ (r : FrameReader) (standard : r .reading ≡ Standard) where
   escape-aborts : aborts r ≡ r .escape
   escape-aborts = ap (λ (k : Reading). r .escape && not (isCrate k)) standard ∙ and-true (r .escape)
 
-  good-whole : (buf : List ℕ) → isGood (faultOf r buf) ≡ isWhole (held r buf)
-  good-whole buf = rw escape-aborts (by-test (r .escape) (λ e. rw e) (λ e. rw e))
+  good-ends : (buf : List ℕ) → isGood (faultOf r buf) ≡ endsGood (held r buf)
+  good-ends buf = rw escape-aborts (by-test (r .escape) (λ e. rw e) (λ e. rw e))
 
   end-clean : (buf : List ℕ) → EndsClean (held r buf) (held (ended r buf) buf)
   end-clean buf =
       cond-by (λ (t : FrameReader). EndsClean (held r buf) (held t buf)) (isGood (faultOf r buf))
       (λ g.
-      let w = sym (good-whole buf) ∙ g in
+      let w = sym (good-ends buf) ∙ g in
       record { state = rw w; kept = rw w; cleared = escape-cleared; bytes = refl })
       (λ g.
-      let w = sym (good-whole buf) ∙ g in
+      let w = sym (good-ends buf) ∙ g in
       record { state = rw w; kept = rw (w, standard); cleared = escape-cleared; bytes = refl })
 
 -- 7E inside a frame

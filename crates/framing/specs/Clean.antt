@@ -1,5 +1,6 @@
--- Documents 01 and 02, 'Standard reading', of a frame's end: with an escape pending the frame is discarded, whatever is kept and whatever its
--- check; without one it is judged as usual. One that is not good keeps nothing and is the flag before the next frame; any one clears the escape.
+-- A frame's end in standard reading. Document 02, 2/12: with an escape pending the frame is discarded, whatever its check. Document 01,
+-- 'Reader' and 'Standard reading': otherwise it is judged as usual; an end that is not good keeps nothing and leads to Address; any end
+-- clears the escape.
 use mathlib.Core.Path.{_≡_}
 use mathlib.Core.Bool.{Bool, false, cond, not, _&&_}
 use lib.ListN.{take}
@@ -9,14 +10,14 @@ use Rattle.framing.specs.declared.frame_reader.State.the-variants.{Start
 use Rattle.framing.specs.declared.frame_reader.Reading.the-variants.{Standard}
 use Rattle.framing.specs.declared.frame_reader.FrameReader.{FrameReader}
 
--- no escape is pending, and nothing is wrong with the kept bytes
-abbrev pub isWhole : Held → Bool
-isWhole s = not (s .reader .escape) && isGood (faultIn (take (s .reader .len) (s .buf)))
+-- a frame's end is good: no escape is pending, and nothing is wrong with the kept bytes
+abbrev pub endsGood : Held → Bool
+endsGood s = not (s .reader .escape) && isGood (faultIn (take (s .reader .len) (s .buf)))
 
 -- a frame's end takes s to t
 pub record EndsClean (s t : Held) : Type 0 where
-  pub state : t .reader .state ≡ cond (isWhole s) Complete Address
-  pub kept : t .reader .len ≡ cond (isWhole s) (s .reader .len) 0
+  pub state : t .reader .state ≡ cond (endsGood s) Complete Address
+  pub kept : t .reader .len ≡ cond (endsGood s) (s .reader .len) 0
   pub cleared : t .reader .escape ≡ false
   pub bytes : t .buf ≡ s .buf
 
