@@ -3,7 +3,7 @@ ghost use mathlib.Core.Path.{_≡_};
 ghost use mathlib.Core.List.{_++_};
 ghost use Prim.Native.Nat.{_*_, _≤_};
 ghost use lib.ListN.{length};
-ghost use Rattle.framing.specs.Rfc1662.{unit, stuffed, frame};
+ghost use Rattle.framing.specs.Rfc1662.{fcs, unit, stuffed, frame};
 ghost use Rattle.framing.specs.Writer.{units, frameUnits, Ran, Encodes, capped};
 use crate::crc::crc16;
 use crate::frame_writer::STARTED;
@@ -35,30 +35,50 @@ fn parts_at(buf: &mut [u8], at: usize, asyncmap: u32, head: &[u8], rest: &[u8]) 
     append_escaped(buf, next, asyncmap, rest)
 }
 
-// The frame of a packet that lies in two parts.
-fn frame_at(buf: &mut [u8], at: usize, asyncmap: u32, head: &[u8], rest: &[u8]) -> Spot
+// The bytes of three parts as they are sent.
+fn body_at(buf: &mut [u8], at: usize, asyncmap: u32, head: &[u8], part: &[u8], rest: &[u8]) -> Spot
     requires { ⌜ at ≤ length (now buf) ⌝ }
-    ensures { λ r. ⌜ Ran (frameUnits asyncmap (now (head .entry) ++ now (rest .entry))) (now (buf .entry)) at (now (buf .exit)) (r .at) (r .done) ⌝ }
+    ensures { λ r. ⌜ Ran (units asyncmap (now (head .entry) ++ (now (part .entry) ++ now (rest .entry)))) (now (buf .entry)) at (now (buf .exit)) (r .at) (r .done) ⌝ }
+{
+    let p = append_escaped(buf, at, asyncmap, head);
+    if !p.done {
+        return p;
+    }
+    let next = p.at;
+    parts_at(buf, next, asyncmap, part, rest)
+}
+
+// The check value behind FF 03 and three parts.
+fn body_crc(head: &[u8], part: &[u8], rest: &[u8]) -> u16
+    ensures { λ r. ⌜ r ≡ fcs 0x3DE3 (now (head .entry) ++ (now (part .entry) ++ now (rest .entry))) ⌝ }
+{
+    crc16(crc16(crc16(STARTED, head), part), rest)
+}
+
+// The frame of a packet that lies in three parts.
+fn frame_at(buf: &mut [u8], at: usize, asyncmap: u32, head: &[u8], part: &[u8], rest: &[u8]) -> Spot
+    requires { ⌜ at ≤ length (now buf) ⌝ }
+    ensures { λ r. ⌜ Ran (frameUnits asyncmap (now (head .entry) ++ (now (part .entry) ++ now (rest .entry)))) (now (buf .entry)) at (now (buf .exit)) (r .at) (r .done) ⌝ }
 {
     let s = start_at(buf, at, asyncmap);
     if !s.done {
         return s;
     }
     let next = s.at;
-    let p = parts_at(buf, next, asyncmap, head, rest);
+    let p = body_at(buf, next, asyncmap, head, part, rest);
     if !p.done {
         return p;
     }
     let last = p.at;
-    let crc = crc16(crc16(STARTED, head), rest);
+    let crc = body_crc(head, part, rest);
     finish_at(buf, last, asyncmap, crc)
 }
 
-// The frame of a packet that lies in two parts, from the front of `buf`.
-pub fn encode_parts(buf: &mut [u8], asyncmap: u32, head: &[u8], rest: &[u8]) -> Encoded
-    ensures { λ r. ⌜ Encodes asyncmap (now (head .entry) ++ now (rest .entry)) (now (buf .entry)) (r .outcome) (r .count) (now (buf .exit)) ⌝ }
+// The frame of a packet that lies in three parts, from the front of `buf`.
+pub fn encode_parts(buf: &mut [u8], asyncmap: u32, head: &[u8], part: &[u8], rest: &[u8]) -> Encoded
+    ensures { λ r. ⌜ Encodes asyncmap (now (head .entry) ++ (now (part .entry) ++ now (rest .entry))) (now (buf .entry)) (r .outcome) (r .count) (now (buf .exit)) ⌝ }
 {
-    let p = frame_at(buf, 0, asyncmap, head, rest);
+    let p = frame_at(buf, 0, asyncmap, head, part, rest);
     if p.done {
         return Encoded {
             outcome: Outcome::Done,
@@ -75,7 +95,8 @@ pub fn encode_parts(buf: &mut [u8], asyncmap: u32, head: &[u8], rest: &[u8]) -> 
 pub fn encode(buf: &mut [u8], asyncmap: u32, src: &[u8]) -> Encoded
     ensures { λ r. ⌜ Encodes asyncmap (now (src .entry)) (now (buf .entry)) (r .outcome) (r .count) (now (buf .exit)) ⌝ }
 {
-    encode_parts(buf, asyncmap, src, &src[..0])
+    let none = &src[..0];
+    encode_parts(buf, asyncmap, src, none, none)
 }
 
 fn unit_len(asyncmap: u32, b: u8) -> usize

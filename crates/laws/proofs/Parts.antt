@@ -1,10 +1,10 @@
 -- Parts of a list: what two lists with the same front have in common.
 -- Assumes nothing.
-use mathlib.Core.Path.{_≡_, sym, ap, _∙_}
+use mathlib.Core.Path.{_≡_, refl, sym, ap, _∙_}
 use mathlib.Core.List.{List, [], _∷_}
 use Prim.Native.Nat.{ℕ, zero, suc, _-_, _≤_}
 use native.Mathlib.Nat.{sub-zero, zero-sub, suc-sub-suc}
-use lib.ListN.{take, drop}
+use lib.ListN.{length, take, drop}
 use lib.Seq.{take-nil, take-take}
 
 module _ {A : Type 0} where
@@ -20,3 +20,10 @@ module _ {A : Type 0} where
     where
       front : (l : List A) → take m (drop n (take k l)) ≡ take m (drop n l)
       front l = ap (take m) (drop-take n k l) ∙ take-take m (k - n) (drop n l) h
+
+  -- a front of a front is a front, as long as it is
+  pub take-of-take : (k v : ℕ) (l : List A) → take k (take v l) ≡ take (length (take k (take v l))) l
+  take-of-take zero v l = refl
+  take-of-take (suc k) zero l = refl
+  take-of-take (suc k) (suc v) [] = refl
+  take-of-take (suc k) (suc v) (a ∷ l) = ap (λ (r : List A). a ∷ r) (take-of-take k v l)

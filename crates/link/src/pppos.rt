@@ -1,5 +1,6 @@
 // The link: PPP over a serial line. Its state goes by value; the transmit and the receive buffer are lent to each call.
 ghost use mathlib.Core.Path.{_≡_};
+ghost use mathlib.Core.List.{_++_};
 ghost use Prim.Native.Nat.{_-_, _≤_, _<_};
 ghost use lib.ListN.{length, take, drop};
 ghost use Rattle.phases.specs.Phases.{statusOf};
@@ -270,11 +271,18 @@ impl PPPoS {
     pub fn send(self, pkt: &[u8], tx: &mut [u8]) -> Sent
         ensures { λ r. ⌜ Sends self (now (pkt .entry)) (now (tx .entry)) (r .outcome) (r .count) (now (tx .exit)) ⌝ }
     {
+        self.send_parts(pkt, &pkt[..0], tx)
+    }
+
+    // The frame of an IP packet that lies in two parts.
+    pub fn send_parts(self, part: &[u8], rest: &[u8], tx: &mut [u8]) -> Sent
+        ensures { λ r. ⌜ Sends self (now (part .entry) ++ now (rest .entry)) (now (tx .entry)) (r .outcome) (r .count) (now (tx .exit)) ⌝ }
+    {
         let p = self.ppp;
         let a = p.lcp;
         let q = a.proto;
         let head = [0x00, 0x21];
-        let e = encode_parts(tx, q.asyncmap_remote, &head, pkt);
+        let e = encode_parts(tx, q.asyncmap_remote, &head, part, rest);
         let o = e.outcome;
         Sent {
             outcome: framing_outcome(o),

@@ -6,6 +6,7 @@ pub mod Faults
 pub mod FramingCalls
 pub mod FramingTable
 pub mod Packets
+pub mod OutboxTable
 pub mod Polls
 pub mod Rows
 pub mod Table

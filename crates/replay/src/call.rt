@@ -68,10 +68,18 @@ pub(crate) const STATUS: usize = 16;
 
 pub(crate) const DUMP: usize = 17;
 
-// An empty line or a comment is no call, and any number above is a bad line.
-pub(crate) const QUIET: usize = 18;
+pub(crate) const OBNEW: usize = 18;
 
-pub(crate) const BAD: usize = 19;
+pub(crate) const OBACCEPT: usize = 19;
+
+pub(crate) const OBSEND: usize = 20;
+
+pub(crate) const OBBUF: usize = 21;
+
+// An empty line or a comment is no call, and any number above is a bad line.
+pub(crate) const QUIET: usize = 22;
+
+pub(crate) const BAD: usize = 23;
 
 fn named(name: &[u8]) -> usize {
     if name.len() > 0 {
@@ -80,15 +88,16 @@ fn named(name: &[u8]) -> usize {
         }
     }
     which(
-        b"reset fill crc wnew wstart wappend wfinish rnew rconsume rreceive new open consume poll send part status dump",
+        b"reset fill crc wnew wstart wappend wfinish rnew rconsume rreceive new open consume poll send part status dump obnew obaccept obsend obbuf",
         name,
     )
 }
 
-// The kind of the word at a place behind the name, four for each call: - none, w a buffer's name, n a length, 2 two hex digits,
-// 4 and 8 up to so many, b bytes, s a reading, * any word, as in a comment and a line that is bad already.
+// The kind of the word at a place behind the name, four for each call: - none, w a buffer's name, n a length, o one of the outbox's,
+// 2 two hex digits, 4 and 8 up to so many, b bytes, s a reading, * any word, as in a comment and a line that is bad already.
 fn kind(call: usize, place: usize) -> u8 {
-    let kinds = b"----w2--4b--n8------b-------ns--b-------bbs-----nb--nn--nb--nnn---------****";
+    let kinds =
+        b"----w2--4b--n8------b-------ns--b-------bbs-----nb--nn--nb--nnn---------o---ob--on--o---****";
     if call <= QUIET {
         if place < 4 {
             return kinds[call * 4 + place];
@@ -106,6 +115,7 @@ fn value(word: &[u8], kind: u8) -> usize {
     match kind {
         b'-' => up_to(word.len(), 0),
         b'n' => up_to(number(word, true, 1, word.len()), 4096),
+        b'o' => up_to(number(word, true, 1, word.len()), 70000),
         b'2' => number(word, false, 2, 2),
         b'4' => number(word, false, 1, 4),
         b'8' => number(word, false, 1, 8),

@@ -6,6 +6,7 @@ mod line;
 mod pppos;
 mod reader;
 mod show;
+mod waiting;
 mod word;
 mod world;
 mod writer;
@@ -13,23 +14,52 @@ mod writer;
 use crate::answer::heard;
 use crate::pppos::fresh;
 use crate::pppos::linked;
+use crate::waiting::empty;
+use crate::waiting::run;
 use crate::world::World;
 use crate::world::started;
 use link::pppos::PPPoS;
+use outbox::outbox::Outbox;
 
-// A link's type is long, and a proof lists it at each step: it stands beside the rest, and goes to its own calls only.
+// The link and the outbox above it. A link's type is long, and a proof lists it at each step: it stands beside the rest, and goes
+// to the calls that need it only.
+struct Stack {
+    link: PPPoS,
+    outbox: Outbox,
+}
+
 struct Session {
     world: World,
-    link: PPPoS,
+    stack: Stack,
     over: bool,
 }
 
 fn opened() -> Session {
     Session {
         world: started(),
-        link: fresh(),
+        stack: Stack {
+            link: fresh(),
+            outbox: empty(),
+        },
         over: false,
     }
+}
+
+// The answer that the outbox or the link has to give.
+fn answered(
+    s: Stack,
+    w: World,
+    line: &[u8],
+    tx: &mut [u8],
+    rx: &mut [u8],
+    out: &mut [u8],
+) -> Stack {
+    let c = w.call;
+    let link = s.link;
+    let outbox = s.outbox;
+    let outbox = run(outbox, link, c, line, tx, rx, out);
+    let link = linked(link, c, line, tx, rx, out);
+    Stack { link, outbox }
 }
 
 // Waits for bytes, and answers the line that they end.
@@ -42,12 +72,12 @@ fn turn(
     out: &mut [u8],
 ) -> Session {
     let world = s.world;
-    let link = s.link;
+    let stack = s.stack;
     let world = heard(world, chunk, line, tx, rx, out);
-    let link = linked(link, world, line, tx, rx, out);
+    let stack = answered(stack, world, line, tx, rx, out);
     Session {
         world,
-        link,
+        stack,
         over: world.over,
     }
 }
@@ -68,10 +98,10 @@ fn serve(chunk: &mut [u8], line: &mut [u8], tx: &mut [u8], rx: &mut [u8], out: &
 fn main() {
     let mut chunk = [0u8; 4096];
     let mut line = [0u8; 8400];
-    // The link's buffers as `reset` leaves them, and behind them those of the writer and the reader.
+    // The link's buffers as `reset` leaves them, and behind them those of the writer, the reader and the outbox.
     let mut tx = [0xEEu8; 8192];
-    let mut rx = [0u8; 8192];
-    // Two whole buffers in digits, and the words before them.
-    let mut out = [0u8; 16500];
+    let mut rx = [0u8; 78192];
+    // The outbox's whole buffer in digits, and the words before it.
+    let mut out = [0u8; 140100];
     serve(&mut chunk, &mut line, &mut tx, &mut rx, &mut out);
 }

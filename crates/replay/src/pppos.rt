@@ -10,7 +10,6 @@ use crate::show::put;
 use crate::show::say;
 use crate::show::text;
 use crate::word::NONE;
-use crate::world::World;
 use crate::world::front;
 use crate::world::given;
 use crate::world::lent;
@@ -222,13 +221,12 @@ fn anew(link: PPPoS, c: Call, line: &[u8], out: &mut [u8]) -> PPPoS {
 
 pub(crate) fn linked(
     link: PPPoS,
-    w: World,
+    c: Call,
     line: &[u8],
     tx: &mut [u8],
     rx: &mut [u8],
     out: &mut [u8],
 ) -> PPPoS {
-    let c = w.call;
     let k = c.number;
     match k {
         call::RESET | call::NEW | call::OPEN => anew(link, c, line, out),

@@ -3,8 +3,8 @@ use borrow.Author.Needs.{needs}
 use Rattle.framing.proofs.encode.encode.Statement.{statement}
 use Rattle.framing.proofs.encode.encode.Tie as tie
 
-slice-aggregate-encode-parts : tie.Need-slice-aggregate-encode-parts
-slice-aggregate-encode-parts c = search needs
+slice-aggregate-none : tie.Need-slice-aggregate-none
+slice-aggregate-none c = search needs
 
 encode-parts-requires : tie.Need-encode-parts-requires
 encode-parts-requires c κs = search needs
@@ -16,5 +16,4 @@ returns : tie.Need-returns
 returns c = rw append-nil at (c .before .before .encode-parts .ensures)
 
 pub encode-spec : {M : Type 1} → statement M
-encode-spec =
-    tie.close (tie.spec slice-aggregate-encode-parts encode-parts-requires same-length returns)
+encode-spec = tie.close (tie.spec slice-aggregate-none encode-parts-requires same-length returns)

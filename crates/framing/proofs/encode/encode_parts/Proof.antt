@@ -13,8 +13,8 @@ same-length c = search needs
 
 returns : tie.Need-returns
 returns c =
-    let a = c .before .before .before .before .before .before .before .before .args in
-    let p = now (a .head) ++ now (a .rest) in
+    let a = c .before .before .before .before .before .before .before .before .before .args in
+    let p = now (a .head) ++ (now (a .part) ++ now (a .rest)) in
     encodes (a .asyncmap) p (c .before .before .before .frame-at .ensures) (rw (c .if1 .taken)) (rw (c .if1 .taken))
 
 same-length-2 : tie.Need-same-length-2
@@ -22,8 +22,8 @@ same-length-2 c = search needs
 
 returns-2 : tie.Need-returns-2
 returns-2 c =
-    let a = c .before .before .before .before .before .before .before .before .args in
-    let p = now (a .head) ++ now (a .rest) in
+    let a = c .before .before .before .before .before .before .before .before .before .args in
+    let p = now (a .head) ++ (now (a .part) ++ now (a .rest)) in
     encodes (a .asyncmap) p (c .before .before .before .frame-at .ensures) (rw (c .if1 .left)) (rw (c .if1 .left))
 
 pub encode-parts-spec : {M : Type 1} → statement M
