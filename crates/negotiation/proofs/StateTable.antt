@@ -87,6 +87,13 @@ is-closed AckReceived e = absurd (false≢true e)
 is-closed AckSent e = absurd (false≢true e)
 is-closed Opened e = absurd (false≢true e)
 
+pub is-opened : (s : State) → isOpened s ≡ true → s ≡ Opened
+is-opened Closed e = absurd (false≢true e)
+is-opened ReqSent e = absurd (false≢true e)
+is-opened AckReceived e = absurd (false≢true e)
+is-opened AckSent e = absurd (false≢true e)
+is-opened Opened e = refl
+
 module _ (f : OptionFsm) (i : ℕ) (p : List ℕ) where
   -- what is to hold of a step that is not refused
   abbrev Goes : State → Bool → Reaction → Type 0

@@ -1,16 +1,17 @@
 -- The call that accepts, by its tests.
 -- Assumes nothing.
-use mathlib.Core.Path.{_≡_, ap, ap₂, sym, _∙_, subst}
+use mathlib.Core.Path.{_≡_, refl, ap, ap₂, sym, _∙_, subst}
 use mathlib.Core.Bool.{Bool, true, false, true≢false, _||_}
 use mathlib.Core.List.{List, _++_}
+use mathlib.Core.Logic.{_⊎_, inl, inr}
 use Prim.Native.Nat.{ℕ, _+_, _≤_, _<_}
 use native.Mathlib.Omega.{arith}
 use borrow.Author.Tests.{lt-ltb, le-ltb, eq-eqb, ne-eqb, eqb-false}
 use lib.Dec.{eqb}
-use lib.ListN.{length}
+use lib.ListN.{length, getD}
 use Rattle.laws.proofs.Cases.{by-le, by-test}
 use Rattle.outbox.specs.Ring.{placed}
-use Rattle.outbox.specs.Outbox.{start, sized, entry, longest, free, isFull, Accept, declined, grown, Stored, acceptOf, asAccept}
+use Rattle.outbox.specs.Outbox.{start, sized, entry, longest, free, isFull, Accept, declined, grown, Stored, unused, acceptOf, asAccept}
 use Rattle.outbox.specs.History.{taken}
 use Rattle.outbox.specs.declared.refusal.Refusal.{Refusal}
 use Rattle.outbox.specs.declared.refusal.Refusal.the-variants.{BufferShort, PacketLength, NoRoom}
@@ -46,13 +47,15 @@ module _ (o : Outbox) (buf p : List ℕ) where
   unfolding acceptOf
   accept-done h z e f = rw (le-ltb (length buf) (o .size) h, ne-eqb (length p) 0 (λ w. omega arith), le-ltb longest (length p) e, f)
 
-  -- what holds of each answer that it may give holds of the one it gives
+  -- what holds of each answer where it may be given holds of the one that is given
   pub accept-cases : (P : Accept → Type 0)
-      → ((why : Refusal) → P (declined why o buf))
+      → (length buf < o .size → P (declined BufferShort o buf))
+      → (o .size ≤ length buf → (length p ≡ 0) ⊎ (longest < length p) → P (declined PacketLength o buf))
+      → (o .size ≤ length buf → 0 < length p → length p ≤ longest → isFull o (length p) ≡ true → P (declined NoRoom o buf))
       → (o .size ≤ length buf → 0 < length p → length p ≤ longest → isFull o (length p) ≡ false
       → P (record { outcome = Done; outbox = grown o (length p); buf = placed (o .size) (start o) (o .used) (entry p) buf }))
       → P (acceptOf o buf p)
-  accept-cases P refused done =
+  accept-cases P short wrong full done =
       by-le (o .size) (length buf)
       (λ h.
       by-le 1 (length p)
@@ -60,11 +63,19 @@ module _ (o : Outbox) (buf p : List ℕ) where
       by-le (length p) longest
       (λ s.
       by-test (isFull o (length p))
-      (λ f. subst P (sym (accept-full h (omega arith) s f)) (refused NoRoom))
+      (λ f. subst P (sym (accept-full h (omega arith) s f)) (full h (omega arith) s f))
       (λ f. subst P (sym (accept-done h (omega arith) s f)) (done h (omega arith) s f)))
-      (λ s. subst P (sym (accept-long h s)) (refused PacketLength)))
-      (λ z. subst P (sym (accept-empty h (omega arith))) (refused PacketLength)))
-      (λ h. subst P (sym (accept-short h)) (refused BufferShort))
+      (λ s. subst P (sym (accept-long h s)) (wrong h (inr s))))
+      (λ z. let e : length p ≡ 0 = omega arith in subst P (sym (accept-empty h e)) (wrong h (inl e))))
+      (λ h. subst P (sym (accept-short h)) (short h))
+
+  -- the same where it is one thing for all refusals
+  pub accept-either : (P : Accept → Type 0)
+      → ((why : Refusal) → P (declined why o buf))
+      → (o .size ≤ length buf → 0 < length p → length p ≤ longest → isFull o (length p) ≡ false
+      → P (record { outcome = Done; outbox = grown o (length p); buf = placed (o .size) (start o) (o .used) (entry p) buf }))
+      → P (acceptOf o buf p)
+  accept-either P refused done = accept-cases P (λ h. refused BufferShort) (λ h w. refused PacketLength) (λ h z s f. refused NoRoom) done
 
 -- ---- room
 
@@ -89,15 +100,22 @@ stored n f g u h p b b₁ b₂ e q long inside k₁ k₂ =
 
 -- ---- the bytes
 
--- of an answer that is done
-pub accepted-bytes : (o : Outbox) (buf p : List ℕ) → taken (acceptOf o buf p .outcome) ≡ true → Stored o p buf (acceptOf o buf p .buf)
-accepted-bytes o buf p =
-    accept-cases o buf p (λ (a : Accept). taken (a .outcome) ≡ true → Stored o p buf (a .buf))
+-- of an answer that is done; `at` is another way to say the indexes behind what is used
+pub accepted-at : (o : Outbox) (buf p : List ℕ) (at : ℕ → ℕ) → ((j : ℕ) → o .used + j < o .size → unused o j ≡ at j)
+    → taken (acceptOf o buf p .outcome) ≡ true → Stored at p buf (acceptOf o buf p .buf)
+accepted-at o buf p at same =
+    accept-either o buf p (λ (a : Accept). taken (a .outcome) ≡ true → Stored at p buf (a .buf))
     (λ why e. absurd (true≢false (sym e)))
     (λ h z s f e.
     let room : o .used + length (entry p) ≤ o .size = omega (arith, room-bytes o (length p) f) in
     record {
       long = length-placed (o .size) (start o) (o .used) (entry p) buf h (start-le o);
-      new = placed-new (o .size) (start o) (o .used) (entry p) buf h (start-le o) room;
-      others = placed-others (o .size) (start o) (o .used) (entry p) buf h (start-le o) room;
+      new =
+          λ j k.
+          ap (λ (i : ℕ). getD (placed (o .size) (start o) (o .used) (entry p) buf) i 0) (sym (same j (omega arith)))
+          ∙ placed-new (o .size) (start o) (o .used) (entry p) buf h (start-le o) room j k;
+      others = λ i w. placed-others (o .size) (start o) (o .used) (entry p) buf h (start-le o) room i (λ j k q. w j k (q ∙ same j (omega arith)));
     })
+
+pub accepted-bytes : (o : Outbox) (buf p : List ℕ) → taken (acceptOf o buf p .outcome) ≡ true → Stored (unused o) p buf (acceptOf o buf p .buf)
+accepted-bytes o buf p = accepted-at o buf p (unused o) (λ j h. refl)

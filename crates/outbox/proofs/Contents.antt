@@ -6,14 +6,14 @@ use Prim.Native.Nat.{ℕ, _+_, _*_, _-_, _≤_, _<_}
 use native.Mathlib.Omega.{arith}
 use borrow.Author.Tests.{lt-ltb, le-ltb, le-leb, lt-leb}
 use lib.ListN.{length, getD, take, drop, length-drop, drop-of-length-le}
-use lib.Seq.{length-take-le, take-all, take-nil, drop-drop, take-append-le, getD-take}
+use lib.Seq.{length-take-le, take-all, take-nil, drop-drop, take-append-le, getD-take, getD-drop}
 use Rattle.laws.proofs.Cases.{by-le}
 use Rattle.laws.proofs.Parts.{drop-take, take-of-take}
 use Rattle.laws.proofs.Stores.{take-sets}
 use Rattle.outbox.specs.Ring.{turned, placed, around}
-use Rattle.outbox.specs.Outbox.{start, reach, content, sizeIn, entry, first, behind, grown, gone, shrunk}
+use Rattle.outbox.specs.Outbox.{start, reach, content, sizeIn, entry, first, behind, frontIn, ringAt, InFront, grown, gone, shrunk}
 use Rattle.outbox.specs.declared.outbox.Outbox.{Outbox}
-use Rattle.outbox.proofs.Rings.{around-out, around-lt, length-turned, turned-on, placed-turned, part-one, part-two}
+use Rattle.outbox.proofs.Rings.{around-out, around-lt, length-turned, turned-on, placed-turned, turned-at, part-one, part-two}
 
 -- ---- the bytes used
 
@@ -25,6 +25,16 @@ reach-le o = by-le (o .size) (o .used) (λ h. rw (le-ltb (o .used) (o .size) h) 
 
 pub gone-le : (o : Outbox) (n : ℕ) → gone o n ≤ reach o
 gone-le o n = by-le (reach o) (n + 2) (λ h. rw (le-ltb (n + 2) (reach o) h) (omega arith)) (λ h. rw (lt-ltb (n + 2) (reach o) h) (omega arith))
+
+-- a packet that lies within what is used goes whole
+pub gone-whole : (o : Outbox) (n : ℕ) → n + 2 ≤ o .used → o .used ≤ o .size → gone o n ≡ n + 2
+gone-whole o n h room =
+    by-le (reach o) (n + 2)
+    (λ k. rw (le-ltb (n + 2) (reach o) k) (omega (arith, reach-used)))
+    (λ k. rw (lt-ltb (n + 2) (reach o) k))
+  where
+    reach-used : reach o ≡ o .used
+    reach-used = by-le (o .size) (o .used) (λ k. rw (le-ltb (o .used) (o .size) k) (omega arith)) (λ k. rw (lt-ltb (o .used) (o .size) k))
 
 -- the ring as it is read
 abbrev ring : Outbox → List ℕ → List ℕ
@@ -87,6 +97,30 @@ module _ (o : Outbox) (buf : List ℕ) (long : o .size ≤ length buf) where
       sym (part-two (o .size) (start o) buf long (start-le o) 2 n (first-fits n e z) at a h)
       ∙ ap (λ (m : ℕ). take m (drop 2 (ring o buf))) e ∙ sym first-is
 
+-- the packet in front, byte by byte
+module _ (o : Outbox) (buf : List ℕ) (long : o .size ≤ length buf) where
+  at-front : (i : ℕ) → i < o .size → getD (turned (start o) (take (o .size) buf)) i 0 ≡ ringAt o buf i
+  at-front i h = turned-at (o .size) (start o) buf long (start-le o) i h
+
+  pub in-front : InFront o buf (frontIn o buf)
+  in-front =
+      let c = content o buf in
+      record {
+        long =
+            by-le 2 (reach o)
+            (λ h.
+            let s : sizeIn c ≡ ringAt o buf 0 * 256 + ringAt o buf 1 = size-is o buf long h (sym (at-front 0 (omega (arith, reach-le o)))) (sym (at-front 1 (omega (arith, reach-le o)))) in
+            by-le (sizeIn c) (length c - 2)
+            (λ k. omega (arith, first-whole c (omega (arith, length-content o buf long)) k, length-content o buf long))
+            (λ k. omega (arith, first-cut c (omega (arith, length-content o buf long)) k, length-content o buf long)))
+            (λ h. omega (arith, first-none c (omega (arith, length-content o buf long))));
+        bytes =
+            λ j h.
+            ap (λ (l : List ℕ). getD l j 0) (first-is o buf long)
+            ∙ getD-take (length (frontIn o buf)) (drop 2 (ring o buf)) j 0 h ∙ getD-drop 2 (ring o buf) j 0
+            ∙ at-front (2 + j) (omega (arith, first-le c, length-content o buf long, reach-le o));
+      }
+
 -- the length in front, as the code reads it: with fewer than two bytes used, past what is used, or whole
 module _ (o : Outbox) (buf : List ℕ) (long : o .size ≤ length buf) where
   pub read-none : {r : ℕ} → r ≡ reach o → r < 2 → 0 ≡ length (first (content o buf))
@@ -118,6 +152,9 @@ shrunk-more o n h e p q =
 
 pub start-lt : (o : Outbox) → 0 < o .size → start o < o .size
 start-lt o z = by-le (o .size) (o .front) (λ h. rw (le-ltb (o .front) (o .size) h) (omega arith)) (λ h. rw (lt-ltb (o .front) (o .size) h) (omega arith))
+
+pub start-front : (o : Outbox) → o .front < o .size → start o ≡ o .front
+start-front o h = rw (lt-ltb (o .front) (o .size) h)
 
 -- the front lies inside again
 start-shrunk : (o : Outbox) (n : ℕ) → start (shrunk o n) ≡ around (o .size) (start o + gone o n)

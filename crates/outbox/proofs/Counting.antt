@@ -12,7 +12,7 @@ use Rattle.link.specs.declared.pppos.PPPoS.{PPPoS}
 use Rattle.outbox.specs.Outbox.{Accept, acceptOf, Send, frontIn, sendOf}
 use Rattle.outbox.specs.History.{taken, went, Call, Book, after, history, begun, Balanced, SizeKept}
 use Rattle.outbox.specs.declared.outbox.Outbox.{Outbox}
-use Rattle.outbox.proofs.Accepting.{accept-cases}
+use Rattle.outbox.proofs.Accepting.{accept-either}
 use Rattle.outbox.proofs.Sending.{send-cases, frame-some}
 
 abbrev one : Bool → ℕ
@@ -20,7 +20,7 @@ one t = cond t 1 0
 
 count-accept : (o : Outbox) (buf p : List ℕ) → acceptOf o buf p .outbox .held ≡ o .held + one (taken (acceptOf o buf p .outcome))
 count-accept o buf p =
-    accept-cases o buf p (λ (a : Accept). a .outbox .held ≡ o .held + one (taken (a .outcome)))
+    accept-either o buf p (λ (a : Accept). a .outbox .held ≡ o .held + one (taken (a .outcome)))
     (λ why. sym (add-zero (o .held)))
     (λ h z s f. refl)
 
@@ -28,8 +28,8 @@ count-send : (o : Outbox) (l : PPPoS) (buf tx : List ℕ) → sendOf o l buf tx 
 count-send o l buf tx =
     send-cases o l buf tx (λ (s : Send). s .outbox .held + one (went (s .count)) ≡ o .held)
     (λ h. add-zero (o .held))
-    (add-zero (o .held))
-    (add-zero (o .held))
+    (λ h e. add-zero (o .held))
+    (λ h e u t. add-zero (o .held))
     (λ h e u t. rw (frame-some (remoteMap l) (ipFrame (frontIn o buf))) (omega arith))
 
 length-more : {A : Type 0} (xs : List A) (t : Bool) (x : A) → length (xs ++ cond t (x ∷ []) []) ≡ length xs + one t
@@ -54,8 +54,8 @@ balanced buf cs = balanced-from (begun buf) cs refl
 
 -- no call changes the size
 size-after : (b : Book) (c : Call) → after b c .outbox .size ≡ b .outbox .size
-size-after b (Call.accepts p buf) = accept-cases (b .outbox) buf p (λ (a : Accept). a .outbox .size ≡ b .outbox .size) (λ why. refl) (λ h z s f. refl)
-size-after b (Call.sends l buf tx) = send-cases (b .outbox) l buf tx (λ (s : Send). s .outbox .size ≡ b .outbox .size) (λ h. refl) refl refl (λ h e u t. refl)
+size-after b (Call.accepts p buf) = accept-either (b .outbox) buf p (λ (a : Accept). a .outbox .size ≡ b .outbox .size) (λ why. refl) (λ h z s f. refl)
+size-after b (Call.sends l buf tx) = send-cases (b .outbox) l buf tx (λ (s : Send). s .outbox .size ≡ b .outbox .size) (λ h. refl) (λ h e. refl) (λ h e u t. refl) (λ h e u t. refl)
 
 size-from : (b : Book) (cs : List Call) → history b cs .outbox .size ≡ b .outbox .size
 unfolding history

@@ -3,9 +3,10 @@
 use mathlib.Core.Path.{_≡_, refl, ap, ap₂, sym, _∙_}
 use mathlib.Core.Bool.{Bool, true, false, cond, _||_}
 use mathlib.Core.List.{List, [], _∷_, _++_}
-use Prim.Native.Nat.{ℕ, _+_, _≤_, _<_}
+use mathlib.Core.Logic.{_⊎_, inl, inr}
+use Prim.Native.Nat.{ℕ, _+_, _%_, _≤_, _<_}
 use native.Mathlib.Omega.{arith}
-use borrow.Author.Tests.{lt-ltb, le-ltb, le-leb, eq-eqb, ne-eqb, leb-true}
+use borrow.Author.Tests.{lt-ltb, le-ltb, le-leb, eq-eqb, ne-eqb, eqb-true, leb-true}
 use lib.Dec.{eqb, ltb}
 use lib.Seq.{take-at}
 use lib.ListN.{length}
@@ -16,13 +17,17 @@ use Rattle.negotiation.specs.declared.states.State.the-variants.{Opened}
 use Rattle.link.specs.Link.{remoteMap, ipFrame}
 use Rattle.link.specs.declared.pppos.PPPoS.{PPPoS}
 use Rattle.outbox.specs.Refusal.{outcomeNumber}
-use Rattle.outbox.specs.Outbox.{longest, alwaysEnough, isEnough, packets, heldIn, free, Accept, acceptOf, frontIn, sendOf}
-use Rattle.outbox.specs.History.{went, takes, Call, lent, Book, after, history, begun, Untouched, Alone, NothingLost, roomNumber, RoomCounted, Drains}
+use Rattle.outbox.specs.Ring.{around}
+use Rattle.outbox.specs.Outbox.{longest, alwaysEnough, isEnough, heldIn, freshOf, free, isFull, unused, Accept, acceptOf, asAccept, frontIn, sendOf, asSend}
+use Rattle.outbox.specs.History.{went, takes, Call, Book, entered, posted, after, history, begun, Untouched, Alone, NothingLost, InARow, roomNumber, RoomCounted, Drains}
 use Rattle.outbox.specs.declared.outbox.Outbox.{Outbox}
-use Rattle.outbox.proofs.Accepting.{accept-empty, accept-long, accept-full, accept-done, full-bytes, full-count}
+use Rattle.outbox.specs.declared.outbox.Accepted.{Accepted}
+use Rattle.outbox.specs.declared.outbox.Sent.{Sent}
+use Rattle.outbox.proofs.Rings.{around-more}
+use Rattle.outbox.proofs.Accepting.{accept-cases, full-count, room-bytes, accepted-at}
 use Rattle.outbox.proofs.Sending.{frame-some, opened-up, send-up, frame-most}
-use Rattle.outbox.proofs.Queue.{flat-takes, flat-least}
-use Rattle.outbox.proofs.Keeping.{Kept, kept-held, kept-begun, front-kept, kept-after}
+use Rattle.outbox.proofs.Queue.{flat-takes, flat-least, takes-append}
+use Rattle.outbox.proofs.Keeping.{Kept, kept-start, kept-held, kept-begun, front-kept, kept-after}
 
 -- ---- what a kept book says of the next call
 
@@ -33,36 +38,50 @@ room-number : (b : Book) → Kept b → (p buf : List ℕ) → b .outbox .size �
     → outcomeNumber (acceptOf (b .outbox) buf p .outcome) ≡ roomNumber (b .outbox .size) (heldIn (b .outbox) (b .ring)) p
 room-number b k p buf h =
     rw (kept-held b k, ← flat-takes (k .waiting), ← k .used)
-    (by-le 1 (length p)
-    (λ z.
-    by-le (length p) longest
-    (λ s.
-    let fair : eqb (length p) 0 || ltb longest (length p) ≡ false = ap₂ (λ (x y : Bool). x || y) (ne-eqb (length p) 0 (λ w. omega arith)) (le-ltb longest (length p) s) in
-    by-le (length p + 2) (free o)
-    (λ f.
-    ap number (accept-done o buf p h (omega arith) s (full-count o (length p) f ∙ ne-eqb (o .held) 0xFFFFFFFFFFFFFFFF few))
-    ∙ sym (ap₂ told fair (le-ltb (o .size) (o .used + (length p + 2)) (omega (arith, k .room)))))
-    (λ f.
-    ap number (accept-full o buf p h (omega arith) s (full-bytes o (length p) f))
-    ∙ sym (ap₂ told fair (lt-ltb (o .size) (o .used + (length p + 2)) (omega (arith, k .room))))))
-    (λ s. ap number (accept-long o buf p h s) ∙ sym (ap₂ (λ (x y : Bool). told (x || y) tight) (ne-eqb (length p) 0 (λ w. omega arith)) (lt-ltb longest (length p) s))))
-    (λ z. ap number (accept-empty o buf p h (omega arith)) ∙ sym (ap (λ (t : Bool). told (t || ltb longest (length p)) tight) (eq-eqb (length p) 0 (omega arith)))))
+    (accept-cases o buf p (λ (a : Accept). outcomeNumber (a .outcome) ≡ told (eqb (length p) 0 || ltb longest (length p)) (ltb (o .size) (o .used + (length p + 2))))
+    (λ s. absurd (omega arith))
+    (λ _ w. sym (ap (λ (t : Bool). told t (ltb (o .size) (o .used + (length p + 2)))) (wrong w)))
+    (λ _ z s f. sym (ap₂ told (fair z s) (lt-ltb (o .size) (o .used + (length p + 2)) (tight f))))
+    (λ _ z s f. sym (ap₂ told (fair z s) (le-ltb (o .size) (o .used + (length p + 2)) (omega (arith, k .room, room-bytes o (length p) f))))))
   where
     o : Outbox
     o = b .outbox
 
-    number : Accept → ℕ
-    number a = outcomeNumber (a .outcome)
-
     told : Bool → Bool → ℕ
     told t f = cond t 14 (cond f 15 0)
 
-    -- the test for room, which a wrong length comes before
-    tight : Bool
-    tight = ltb (o .size) (o .used + (length p + 2))
+    wrong : (length p ≡ 0) ⊎ (longest < length p) → eqb (length p) 0 || ltb longest (length p) ≡ true
+    wrong (inl e) = ap (λ (t : Bool). t || ltb longest (length p)) (eq-eqb (length p) 0 e)
+    wrong (inr s) = ap₂ (λ (x y : Bool). x || y) (ne-eqb (length p) 0 (λ w. omega arith)) (lt-ltb longest (length p) s)
+
+    fair : 0 < length p → length p ≤ longest → eqb (length p) 0 || ltb longest (length p) ≡ false
+    fair z s = ap₂ (λ (x y : Bool). x || y) (ne-eqb (length p) 0 (λ w. omega arith)) (le-ltb longest (length p) s)
 
     few : o .held ≡ 0xFFFFFFFFFFFFFFFF → ⊥
     few e = omega (arith, k .count, k .used, k .room, k .small, flat-least (k .waiting))
+
+    -- it is not the count that is full
+    tight : isFull o (length p) ≡ true → o .size < o .used + (length p + 2)
+    tight f =
+        by-le (length p + 2) (free o)
+        (λ r. absurd (few (eqb-true (o .held) 0xFFFFFFFFFFFFFFFF (sym (full-count o (length p) r) ∙ f))))
+        (λ r. omega (arith, k .room))
+
+in-a-row-kept : (b : Book) → Kept b → InARow b
+in-a-row-kept b k p buf = accepted-at o buf p (λ j. (takes (b .accepted) + j) % o .size) at
+  where
+    o : Outbox
+    o = b .outbox
+
+    all : takes (b .accepted) ≡ takes (k .gone) + o .used
+    all = omega (arith, ap takes (k .all), takes-append (k .gone) (k .waiting), flat-takes (k .waiting), k .used)
+
+    at : (j : ℕ) → o .used + j < o .size → unused o j ≡ (takes (b .accepted) + j) % o .size
+    at j h =
+        let m : takes (k .gone) + (o .used + j) ≡ takes (b .accepted) + j = omega (arith, all) in
+        ap (λ (f : ℕ). around (o .size) (f + (o .used + j))) (kept-start b k (omega arith))
+        ∙ around-more (o .size) (takes (k .gone)) (o .used + j) (omega arith) (omega arith)
+        ∙ ap (λ (x : ℕ). x % o .size) m
 
 drained : (b : Book) → Kept b → (l : PPPoS) (buf tx : List ℕ) → b .outbox .size ≤ length buf → Untouched b buf → 0 < b .outbox .held → l .ppp .ipv4cp .state ≡ Opened
     → isEnough tx ≡ true → went (sendOf (b .outbox) l buf tx .count) ≡ true
@@ -75,6 +94,19 @@ drained b k l buf tx h u some d long = go (k .waiting) refl (k .short)
         let q : length p ≡ length w = ap length (front-kept b k buf h u e) in
         let t = le-leb (length (frame (remoteMap l) (ipFrame p))) (length tx) (omega (arith, frame-most (remoteMap l) p, s .0, leb-true alwaysEnough (length tx) long)) in
         rw (send-up (b .outbox) l buf tx h (λ z. omega arith) (opened-up l d), t) (frame-some (remoteMap l) (ipFrame p))
+
+-- ---- the calls as their contracts have them
+
+pub new-begins : (buf : List ℕ) {o : Outbox} → o ≡ freshOf (length buf) → begun buf .outbox ≡ o
+new-begins buf e = sym e
+
+pub accept-enters : (b : Book) (p buf : List ℕ) {r : Accepted} {buf′ : List ℕ} → asAccept r buf′ ≡ acceptOf (b .outbox) buf p
+    → after b (Call.accepts p buf) ≡ entered b p (asAccept r buf′)
+accept-enters b p buf e = ap (entered b p) (sym e)
+
+pub send-posts : (b : Book) (l : PPPoS) (buf tx : List ℕ) {r : Sent} {tx′ : List ℕ} → asSend r tx′ ≡ sendOf (b .outbox) l buf tx
+    → after b (Call.sends l buf tx) ≡ posted b l buf (asSend r tx′)
+send-posts b l buf tx e = ap (posted b l buf) (sym e)
 
 -- ---- every history
 
@@ -96,6 +128,9 @@ module _ (buf : List ℕ) (cs : List Call) (alone : Alone (begun buf) cs) where
   room-counted =
       let b = history (begun buf) cs in
       record { bytes = room-free b kept; number = λ p lent h. room-number b kept p lent h }
+
+  pub in-a-row : InARow (history (begun buf) cs)
+  in-a-row = in-a-row-kept (history (begun buf) cs) kept
 
   pub drains : Drains (history (begun buf) cs)
   drains l lent tx h u some d long = drained (history (begun buf) cs) kept l lent tx h u some d long

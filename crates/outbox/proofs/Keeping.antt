@@ -3,7 +3,8 @@
 use mathlib.Core.Path.{_≡_, refl, ap, ap₂, sym, _∙_}
 use mathlib.Core.Bool.{true, false}
 use mathlib.Core.List.{List, [], _∷_, _++_, append-assoc, append-nil}
-use Prim.Native.Nat.{ℕ, _+_, _≤_}
+use Prim.Native.Nat.{ℕ, _+_, _%_, _≤_, _<_}
+use native.Mathlib.Nat.{mod-lt, zero-mod}
 use native.Mathlib.Omega.{arith}
 use borrow.Author.Tests.{lt-ltb, le-ltb, le-leb, lt-leb}
 use lib.ListN.{length, take, drop, length-append}
@@ -16,18 +17,18 @@ use Rattle.framing.specs.Writer.{holds}
 use Rattle.negotiation.specs.declared.states.State.the-variants.{Opened}
 use Rattle.link.specs.Link.{remoteMap, ipFrame}
 use Rattle.link.specs.declared.pppos.PPPoS.{PPPoS}
-use Rattle.outbox.specs.Ring.{turned, placed}
-use Rattle.outbox.specs.Outbox.{largest, longest, start, content, entry, first, behind, packets, heldIn, freshOf, isFull, Accept, declined, grown, Send, shrunk, frontIn, up, written, sentFirst, keptFirst, idle}
-use Rattle.outbox.specs.History.{Call, lent, Post, Book, leaves, entered, posted, after, begun, Untouched, Framed}
+use Rattle.outbox.specs.Ring.{turned, placed, around}
+use Rattle.outbox.specs.Outbox.{largest, longest, start, content, entry, first, behind, packets, heldIn, freshOf, isFull, Accept, declined, grown, Send, gone, shrunk, frontIn, up, written, sentFirst, keptFirst, idle}
+use Rattle.outbox.specs.History.{takes, Call, lent, Post, Book, leaves, entered, posted, after, begun, Untouched, Framed}
 use Rattle.outbox.specs.declared.refusal.Refusal.{Refusal}
 use Rattle.outbox.specs.declared.refusal.Refusal.the-variants.{BufferShort}
 use Rattle.outbox.specs.declared.refusal.Outcome.the-variants.{Done, Refused}
 use Rattle.outbox.specs.declared.outbox.Outbox.{Outbox}
-use Rattle.outbox.proofs.Rings.{length-placed}
-use Rattle.outbox.proofs.Accepting.{accept-cases, room-bytes}
-use Rattle.outbox.proofs.Contents.{start-le, reach-le, length-ring, content-grown, content-shrunk}
+use Rattle.outbox.proofs.Rings.{around-more, length-placed}
+use Rattle.outbox.proofs.Accepting.{accept-either, room-bytes}
+use Rattle.outbox.proofs.Contents.{start-le, start-front, reach-le, gone-le, gone-whole, length-ring, content-grown, content-shrunk}
 use Rattle.outbox.proofs.Sending.{frame-some, up-opened, send-cases}
-use Rattle.outbox.proofs.Queue.{flat, flat-nil, first-flat, behind-flat, packets-flat, flat-snoc}
+use Rattle.outbox.proofs.Queue.{flat, flat-nil, first-flat, behind-flat, packets-flat, flat-snoc, flat-takes, takes-nil, takes-cons, takes-append}
 
 pub record Kept (b : Book) : Type 0 where
   pub ring : length (b .ring) ≡ b .outbox .size
@@ -40,7 +41,12 @@ pub record Kept (b : Book) : Type 0 where
   pub used : b .outbox .used ≡ length (flat waiting)
   pub room : b .outbox .used ≤ b .outbox .size
   pub short : Each (λ p. length p ≤ longest) waiting
+  pub front : 0 < b .outbox .size → b .outbox .front ≡ takes gone % b .outbox .size
   pub all : gone ++ waiting ≡ b .accepted
+
+-- the front is where all that went ends
+pub kept-start : (b : Book) (k : Kept b) → 0 < b .outbox .size → start (b .outbox) ≡ takes (k .gone) % b .outbox .size
+kept-start b k z = start-front (b .outbox) (rw (k .front z) (mod-lt (takes (k .gone)) z)) ∙ k .front z
 
 pub kept-held : (b : Book) (k : Kept b) → heldIn (b .outbox) (b .ring) ≡ k .waiting
 kept-held b k = ap₂ packets (k .count) (k .bytes) ∙ packets-flat (k .waiting)
@@ -58,6 +64,7 @@ kept-begun buf =
       used = sym (ap length flat-nil);
       room = omega arith;
       short = tt;
+      front = λ z. sym (ap (λ (m : ℕ). m % freshOf (length buf) .size) takes-nil ∙ zero-mod (freshOf (length buf) .size));
       all = refl;
     }
   where
@@ -119,6 +126,7 @@ kept-more b k p buf u h s f =
       used = omega (arith, k .used, ap length (flat-snoc (k .waiting) p), length-append (flat (k .waiting)) (entry p));
       room = omega (arith, fits);
       short = each-append (λ q. length q ≤ longest) (k .waiting) (p ∷ []) (k .short) (s, tt);
+      front = k .front;
       all = sym (append-assoc (k .gone) (k .waiting) (p ∷ [])) ∙ ap (λ (l : List (List ℕ)). l ++ (p ∷ [])) (k .all);
     })
   where
@@ -136,7 +144,7 @@ kept-more b k p buf u h s f =
 
 kept-accepts : (b : Book) → Kept b → (p buf : List ℕ) → Untouched b buf → Kept (after b (Call.accepts p buf))
 kept-accepts b k p buf u =
-    accept-cases (b .outbox) buf p (λ (a : Accept). Kept (entered b p a))
+    accept-either (b .outbox) buf p (λ (a : Accept). Kept (entered b p a))
     (kept-declined b k p buf u)
     (λ h z s f. kept-more b k p buf u h s f)
 
@@ -180,6 +188,18 @@ module _ (b : Book) (k : Kept b) (l : PPPoS) (buf tx : List ℕ) (u : Untouched 
       (λ r. rw (le-leb (b .outbox .held) 1 r) (last ws e r))
       (λ r. content-shrunk (b .outbox) buf h r ∙ ap behind (content-lent b buf h u ∙ k .bytes ∙ ap flat e) ∙ behind-flat w ws)
 
+  -- the front moves on by the packet and its length
+  fronted : 0 < b .outbox .size → next .front ≡ takes (k .gone ++ (p ∷ [])) % b .outbox .size
+  fronted z =
+      let n = b .outbox .size in
+      let s = kept-start b k z in
+      let q : length p ≡ length w = ap length (front-kept b k buf h u e) in
+      let g : gone (b .outbox) (length p) ≡ length p + 2 = gone-whole (b .outbox) (length p) (omega (arith, k .used, flat-takes (k .waiting), ap takes e, takes-cons w ws)) (k .room) in
+      let m : takes (k .gone) + (length p + 2) ≡ takes (k .gone ++ (p ∷ [])) = omega (arith, takes-append (k .gone) (p ∷ []), takes-cons p [], takes-nil) in
+      ap₂ (λ (x y : ℕ). around n (x + y)) s g
+      ∙ around-more n (takes (k .gone)) (length p + 2) z (omega (arith, gone-le (b .outbox) (length p), reach-le (b .outbox)))
+      ∙ ap (λ (x : ℕ). x % n) m
+
   kept-less : up l ≡ true → holds (remoteMap l) (ipFrame p) (length tx) ≡ true → Kept (posted b l buf (sentFirst (b .outbox) l p tx))
   kept-less d t =
       rw (frame-some (remoteMap l) (ipFrame p), leaves-long b buf h, written-frame l p tx t)
@@ -194,6 +214,7 @@ module _ (b : Book) (k : Kept b) (l : PPPoS) (buf tx : List ℕ) (u : Untouched 
         used = sym (length-used next buf h (shrunk-room (b .outbox) (length p))) ∙ ap length moved;
         room = shrunk-room (b .outbox) (length p);
         short = rw e at (k .short) .1;
+        front = fronted;
         all =
             append-assoc (k .gone) (p ∷ []) ws
             ∙ ap (λ (x : List ℕ). k .gone ++ (x ∷ ws)) (front-kept b k buf h u e)
@@ -205,8 +226,8 @@ kept-sends : (b : Book) → Kept b → (l : PPPoS) (buf tx : List ℕ) → Untou
 kept-sends b k l buf tx u =
     send-cases (b .outbox) l buf tx (λ (s : Send). Kept (posted b l buf s))
     (λ h. kept-idle b k l buf u (record { outcome = Refused BufferShort; count = 0; outbox = b .outbox; tx = tx }) refl refl)
-    (kept-idle b k l buf u (idle (b .outbox) tx) refl refl)
-    (kept-idle b k l buf u (keptFirst (b .outbox) l (frontIn (b .outbox) buf) tx) refl refl)
+    (λ h e. kept-idle b k l buf u (idle (b .outbox) tx) refl refl)
+    (λ h some d t. kept-idle b k l buf u (keptFirst (b .outbox) l (frontIn (b .outbox) buf) tx) refl refl)
     (λ h some d t. go h some d t (k .waiting) refl)
   where
     go : b .outbox .size ≤ length buf → (b .outbox .held ≡ 0 → ⊥) → up l ≡ true → holds (remoteMap l) (ipFrame (frontIn (b .outbox) buf)) (length tx) ≡ true

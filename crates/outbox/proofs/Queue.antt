@@ -59,6 +59,19 @@ unfolding flat takes
 flat-takes [] = refl
 flat-takes (p ∷ ps) = omega (arith, flat-takes ps, length-append (entry p) (flat ps))
 
+pub takes-nil : takes [] ≡ 0
+unfolding takes
+takes-nil = refl
+
+pub takes-cons : (p : List ℕ) (ps : List (List ℕ)) → takes (p ∷ ps) ≡ 2 + length p + takes ps
+unfolding takes
+takes-cons p ps = refl
+
+pub takes-append : (ps qs : List (List ℕ)) → takes (ps ++ qs) ≡ takes ps + takes qs
+unfolding takes
+takes-append [] qs = omega arith
+takes-append (p ∷ ps) qs = omega (arith, takes-append ps qs)
+
 pub flat-least : (ps : List (List ℕ)) → 2 * length ps ≤ length (flat ps)
 unfolding flat
 flat-least [] = omega arith

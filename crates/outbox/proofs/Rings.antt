@@ -1,9 +1,9 @@
 -- Laws of a ring: turning it, writing into it, reading a part of it.
 -- Assumes nothing.
 use mathlib.Core.Path.{_≡_, ap, ap₂, sym, _∙_}
-use mathlib.Core.Bool.{Bool, cond}
 use mathlib.Core.List.{List, _++_, append-assoc}
-use Prim.Native.Nat.{ℕ, _+_, _-_, _≤_, _<_}
+use Prim.Native.Nat.{ℕ, _+_, _-_, _%_, _≤_, _<_}
+use native.Mathlib.Nat.{mod-lt, mod-eq-of-lt, mod-add-mod, mod-eq-sub-mod}
 use native.Mathlib.Omega.{arith}
 use borrow.Author.Tests.{lt-ltb, le-ltb}
 use lib.ListN.{length, getD, take, drop, length-append, length-drop, take-append-drop, List·getD-append}
@@ -16,10 +16,10 @@ use Rattle.outbox.specs.Ring.{turned, placed, around}
 -- ---- indexes
 
 pub around-in : (n i : ℕ) → i < n → around n i ≡ i
-around-in n i h = ap (λ (t : Bool). cond t i (i - n)) (lt-ltb i n h)
+around-in n i h = rw (lt-ltb i n h)
 
 pub around-out : (n i : ℕ) → n ≤ i → around n i ≡ i - n
-around-out n i h = ap (λ (t : Bool). cond t i (i - n)) (le-ltb i n h)
+around-out n i h = rw (le-ltb i n h)
 
 pub around-le : (n i : ℕ) → i ≤ n + n → around n i ≤ n
 around-le n i h = by-le n i (λ k. rw (around-out n i k) (omega arith)) (λ k. rw (around-in n i k) (omega arith))
@@ -27,6 +27,17 @@ around-le n i h = by-le n i (λ k. rw (around-out n i k) (omega arith)) (λ k. r
 -- below the size, where there is one
 pub around-lt : (n i : ℕ) → i < n + n → around n i < n
 around-lt n i h = by-le n i (λ k. rw (around-out n i k) (omega arith)) (λ k. rw (around-in n i k) (omega arith))
+
+-- once round is the remainder of a division by the size
+around-rest : (n i : ℕ) → i < n + n → around n i ≡ i % n
+around-rest n i h =
+    by-le n i
+    (λ k. around-out n i k ∙ sym (mod-eq-sub-mod k ∙ mod-eq-of-lt (omega arith)))
+    (λ k. around-in n i k ∙ sym (mod-eq-of-lt k))
+
+-- m indexes further on than a of them lead to from index 0, round and round
+pub around-more : (n a m : ℕ) → 0 < n → m ≤ n → around n (a % n + m) ≡ (a + m) % n
+around-more n a m z h = around-rest n (a % n + m) (omega (arith, mod-lt a z)) ∙ mod-add-mod a n m
 
 -- ---- turning
 

@@ -1,8 +1,9 @@
 -- The call that sends, by its tests.
 -- Assumes nothing.
-use mathlib.Core.Path.{_≡_, refl, ap, ap₂, sym, _∙_, subst}
-use mathlib.Core.Bool.{Bool, true, false, cond, true≢false}
-use mathlib.Core.List.{List, [], _∷_, _++_}
+use mathlib.Core.Path.{_≡_, ap, ap₂, sym, _∙_, subst}
+use mathlib.Core.Bool.{Bool, true, false, cond}
+use mathlib.Core.List.{List, _∷_, _++_}
+use mathlib.Core.Logic.{_⊎_, inl, inr}
 use Prim.Native.Nat.{ℕ, _+_, _*_, _≤_, _<_}
 use native.Mathlib.Omega.{arith}
 use borrow.Author.Tests.{lt-ltb, le-ltb, eq-eqb, ne-eqb, eqb-true, eqb-false}
@@ -16,8 +17,8 @@ use Rattle.framing.proofs.Stuffing.{unit-plain, unit-narrow, escaped-cases, stu
 use Rattle.framing.proofs.Unstuffing.{frame-least}
 use Rattle.framing.proofs.Frame.{frame-parts}
 use Rattle.negotiation.specs.Automaton.{isOpened}
-use Rattle.negotiation.specs.declared.states.State.{State}
-use Rattle.negotiation.specs.declared.states.State.the-variants.{Closed, ReqSent, AckReceived, AckSent, Opened}
+use Rattle.negotiation.specs.declared.states.State.the-variants.{Opened}
+use Rattle.negotiation.proofs.StateTable.{is-opened}
 use Rattle.link.specs.Link.{remoteMap, ipFrame, Sends}
 use Rattle.link.specs.declared.refusal.Refusal.the-variants as link
 use Rattle.link.specs.declared.refusal.Outcome as linked
@@ -31,10 +32,6 @@ use Rattle.outbox.specs.declared.refusal.Outcome.the-variants.{Done, Ref
 use Rattle.outbox.specs.declared.outbox.Outbox.{Outbox}
 use Rattle.outbox.specs.declared.outbox.Sent.{Sent}
 
-pub no-bytes : (l : List ℕ) → length l ≡ 0 → [] ≡ l
-no-bytes [] e = refl
-no-bytes (x ∷ l) e = absurd (omega arith)
-
 pub sends-as : {l : PPPoS} {x y tx tx′ : List ℕ} {o : linked.Outcome} {n : ℕ} → x ≡ y → Sends l x tx o n tx′ → Sends l y tx o n tx′
 sends-as {l} {x} {y} {tx} {tx′} {o} {n} e h = subst (λ (p : List ℕ). Sends l p tx o n tx′) e h
 
@@ -45,15 +42,8 @@ idle-is {r} {o} tx e =
 
 -- ---- IPv4CP
 
-opened-is : (s : State) → isOpened s ≡ true → s ≡ Opened
-opened-is Closed e = absurd (true≢false (sym e))
-opened-is ReqSent e = absurd (true≢false (sym e))
-opened-is AckReceived e = absurd (true≢false (sym e))
-opened-is AckSent e = absurd (true≢false (sym e))
-opened-is Opened e = refl
-
 pub up-opened : (l : PPPoS) → up l ≡ true → l .ppp .ipv4cp .state ≡ Opened
-up-opened l e = opened-is (l .ppp .ipv4cp .state) e
+up-opened l e = is-opened (l .ppp .ipv4cp .state) e
 
 pub opened-up : (l : PPPoS) → l .ppp .ipv4cp .state ≡ Opened → up l ≡ true
 opened-up l e = ap isOpened e
@@ -78,22 +68,23 @@ module _ (o : Outbox) (l : PPPoS) (buf tx : List ℕ) where
   unfolding sendOf
   send-up h e d = rw (le-ltb (length buf) (o .size) h, ne-eqb (o .held) 0 e, d)
 
-  -- what holds of each answer that it may give holds of the one it gives
+  -- what holds of each answer where it may be given holds of the one that is given
   pub send-cases : (P : Send → Type 0)
       → (length buf < o .size → P (record { outcome = Refused BufferShort; count = 0; outbox = o; tx = tx }))
-      → P (idle o tx)
-      → P (keptFirst o l (frontIn o buf) tx)
+      → (o .size ≤ length buf → (o .held ≡ 0) ⊎ (up l ≡ false) → P (idle o tx))
+      → (o .size ≤ length buf → (o .held ≡ 0 → ⊥) → up l ≡ true → holds (remoteMap l) (ipFrame (frontIn o buf)) (length tx) ≡ false → P (keptFirst o l (frontIn o buf) tx))
       → (o .size ≤ length buf → (o .held ≡ 0 → ⊥) → up l ≡ true → holds (remoteMap l) (ipFrame (frontIn o buf)) (length tx) ≡ true → P (sentFirst o l (frontIn o buf) tx))
       → P (sendOf o l buf tx)
   send-cases P short none stays goes =
       by-le (o .size) (length buf)
       (λ h.
       by-test (eqb (o .held) 0)
-      (λ e. subst P (sym (send-none h (eqb-true (o .held) 0 e))) none)
+      (λ e. let z = eqb-true (o .held) 0 e in subst P (sym (send-none h z)) (none h (inl z)))
       (λ e.
+      let some = eqb-false (o .held) 0 e in
       by-test (up l)
-      (λ u. subst P (sym (send-up h (eqb-false (o .held) 0 e) u)) (cond-by P (holds (remoteMap l) (ipFrame (frontIn o buf)) (length tx)) (goes h (eqb-false (o .held) 0 e) u) (λ n. stays)))
-      (λ u. subst P (sym (send-down h (eqb-false (o .held) 0 e) u)) none)))
+      (λ u. subst P (sym (send-up h some u)) (cond-by P (holds (remoteMap l) (ipFrame (frontIn o buf)) (length tx)) (goes h some u) (stays h some u)))
+      (λ u. subst P (sym (send-down h some u)) (none h (inr u)))))
       (λ h. subst P (sym (send-short h)) (short h))
 
 -- what the link's answer comes to is what the definition says

@@ -2,7 +2,7 @@
 use mathlib.Core.Path.{_≡_}
 use mathlib.Core.Bool.{Bool, true, false, cond, _||_}
 use mathlib.Core.List.{List, [], _∷_, _++_}
-use Prim.Native.Nat.{ℕ, _+_, _≤_, _<_}
+use Prim.Native.Nat.{ℕ, _+_, _%_, _≤_, _<_}
 use lib.Dec.{ltb, eqb}
 use lib.ListN.{length, take}
 use Rattle.framing.specs.Rfc1662.{frame}
@@ -10,7 +10,7 @@ use Rattle.negotiation.specs.declared.states.State.the-variants.{Opened}
 use Rattle.link.specs.Link.{remoteMap, ipFrame}
 use Rattle.link.specs.declared.pppos.PPPoS.{PPPoS}
 use Rattle.outbox.specs.Refusal.{outcomeNumber}
-use Rattle.outbox.specs.Outbox.{longest, isEnough, freshOf, heldIn, free, Accept, acceptOf, Send, sendOf}
+use Rattle.outbox.specs.Outbox.{longest, isEnough, freshOf, heldIn, free, Accept, acceptOf, Stored, Send, sendOf}
 use Rattle.outbox.specs.declared.refusal.Outcome.{Outcome}
 use Rattle.outbox.specs.declared.refusal.Outcome.the-variants.{Done, Refused}
 use Rattle.outbox.specs.declared.outbox.Outbox.{Outbox}
@@ -111,6 +111,12 @@ pub record NothingLost (b : Book) : Type 0 where
 unfoldable pub takes : List (List ℕ) → ℕ
 takes [] = 0
 takes (p ∷ ps) = 2 + length p + takes ps
+
+-- the packets lie one behind the other from index 0 on, round the size: the next one accepted behind all that were accepted before it
+abbrev pub InARow : Book → Type 0
+InARow b =
+    (p buf : List ℕ) → taken (acceptOf (b .outbox) buf p .outcome) ≡ true
+    → Stored (λ j. (takes (b .accepted) + j) % b .outbox .size) p buf (acceptOf (b .outbox) buf p .buf)
 
 -- the number that accept answers, of n bytes: 15 exactly where what the packets held leave of them does not hold this one and its length
 abbrev pub roomNumber : ℕ → List (List ℕ) → List ℕ → ℕ

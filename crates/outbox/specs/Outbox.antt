@@ -2,7 +2,7 @@
 use mathlib.Core.Path.{_≡_}
 use mathlib.Core.Bool.{Bool, cond, not, _||_}
 use mathlib.Core.List.{List, [], _∷_, _++_}
-use Prim.Native.Nat.{ℕ, zero, suc, _+_, _*_, _-_, _/_, _%_, _<_}
+use Prim.Native.Nat.{ℕ, zero, suc, _+_, _*_, _-_, _/_, _%_, _<_, min}
 use lib.Dec.{ltb, leb, eqb}
 use lib.ListN.{length, take, drop, getD}
 use Rattle.framing.specs.Rfc1662.{frame}
@@ -113,11 +113,15 @@ acceptOf o buf p =
     (cond (isFull o (length p)) (declined NoRoom o buf)
     (record { outcome = Done; outbox = grown o (length p); buf = placed (o .size) (start o) (o .used) (entry p) buf })))
 
--- the buffer that a packet was accepted into, index by index: byte j of the length and the packet stands j behind what is used, and every other byte stays
-pub record Stored (o : Outbox) (p buf buf′ : List ℕ) : Type 0 where
+-- the buffer that a packet was accepted into, index by index: byte j of its length and itself stands at index `at j`, and every other byte stays
+pub record Stored (at : ℕ → ℕ) (p buf buf′ : List ℕ) : Type 0 where
   pub long : length buf′ ≡ length buf
-  pub new : (j : ℕ) → j < length (entry p) → getD buf′ (around (o .size) (start o + (o .used + j))) 0 ≡ getD (entry p) j 0
-  pub others : (i : ℕ) → ((j : ℕ) → j < length (entry p) → i ≡ around (o .size) (start o + (o .used + j)) → ⊥) → getD buf′ i 0 ≡ getD buf i 0
+  pub new : (j : ℕ) → j < length (entry p) → getD buf′ (at j) 0 ≡ getD (entry p) j 0
+  pub others : (i : ℕ) → ((j : ℕ) → j < length (entry p) → i ≡ at j → ⊥) → getD buf′ i 0 ≡ getD buf i 0
+
+-- the index j behind what is used
+abbrev pub unused : Outbox → ℕ → ℕ
+unused o j = around (o .size) (start o + (o .used + j))
 
 -- the same as the code holds it
 abbrev pub asAccept : Accepted → List ℕ → Accept
@@ -153,6 +157,15 @@ shrunk o n =
 -- the packet in front
 abbrev pub frontIn : Outbox → List ℕ → List ℕ
 frontIn o buf = first (content o buf)
+
+-- the byte that stands i behind the front
+abbrev pub ringAt : Outbox → List ℕ → ℕ → ℕ
+ringAt o buf i = getD buf (around (o .size) (start o + i)) 0
+
+-- the packet in front, index by index, whoever wrote in the buffer: as long as the first two bytes say, at most what is used behind them
+pub record InFront (o : Outbox) (buf p : List ℕ) : Type 0 where
+  pub long : length p ≡ min (ringAt o buf 0 * 256 + ringAt o buf 1) (reach o - 2)
+  pub bytes : (j : ℕ) → j < length p → getD p j 0 ≡ ringAt o buf (2 + j)
 
 -- IPv4CP is Opened
 abbrev pub up : PPPoS → Bool

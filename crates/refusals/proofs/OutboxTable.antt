@@ -9,7 +9,7 @@ use native.Mathlib.Omega.{arith}
 use borrow.Author.Tests.{eqb-true, eqb-false, le-leb, leb-true, leb-false}
 use lib.Dec.{eqb}
 use lib.ListN.{length}
-use Rattle.laws.proofs.Cases.{by-le, by-test, cond-by}
+use Rattle.laws.proofs.Cases.{by-le, by-test}
 use Rattle.framing.specs.Rfc1662.{frame}
 use Rattle.framing.specs.Writer.{holds}
 use Rattle.negotiation.specs.declared.states.State.the-variants.{Opened}
@@ -20,8 +20,8 @@ use Rattle.outbox.specs.Outbox.{longest, free, isFull, Accept, acceptOf, asAcce
 use Rattle.outbox.specs.declared.outbox.Outbox.{Outbox}
 use Rattle.outbox.specs.declared.outbox.Accepted.{Accepted}
 use Rattle.outbox.specs.declared.outbox.Sent.{Sent}
-use Rattle.outbox.proofs.Accepting.{accept-short, accept-empty, accept-long, accept-full, accept-done, full-count, room-bytes, room-count}
-use Rattle.outbox.proofs.Sending.{send-short, send-none, send-down, send-up, up-opened, opened-up}
+use Rattle.outbox.proofs.Accepting.{accept-cases, full-count, room-bytes, room-count}
+use Rattle.outbox.proofs.Sending.{send-none, send-down, send-up, send-cases, up-opened, opened-up}
 use Rattle.refusals.specs.Rows.{Exactly}
 use Rattle.refusals.specs.Framing.{Counted, Fitted, unitsOf, encodeRows, wholeFrame}
 use Rattle.refusals.specs.Outbox.{acceptRows, outboxRows}
@@ -51,18 +51,11 @@ module _ (o : Outbox) (buf p : List ℕ) where
 
   files : Files (acceptOf o buf p)
   files =
-      by-le (o .size) (length buf)
-      (λ h.
-      by-le 1 (length p)
-      (λ z.
-      by-le (length p) longest
-      (λ s.
-      by-test (isFull o (length p))
-      (λ f. subst Files (sym (accept-full o buf p h (omega arith) s f)) (inr ((λ k. omega arith), inr (fair (omega arith) s, inl (refl, full-is f, (refl, refl))))))
-      (λ f. subst Files (sym (accept-done o buf p h (omega arith) s f)) (inr ((λ k. omega arith), inr (fair (omega arith) s, inr (not-full f, refl))))))
-      (λ s. subst Files (sym (accept-long o buf p h s)) (inr ((λ k. omega arith), inl (refl, inr s, (refl, refl))))))
-      (λ z. subst Files (sym (accept-empty o buf p h (omega arith))) (inr ((λ k. omega arith), inl (refl, inl (omega arith), (refl, refl))))))
-      (λ h. subst Files (sym (accept-short o buf p h)) (inl (refl, h, (refl, refl))))
+      accept-cases o buf p Files
+      (λ h. inl (refl, h, (refl, refl)))
+      (λ h w. inr ((λ k. omega arith), inl (refl, w, (refl, refl))))
+      (λ h z s f. inr ((λ k. omega arith), inr (fair z s, inl (refl, full-is f, (refl, refl)))))
+      (λ h z s f. inr ((λ k. omega arith), inr (fair z s, inr (not-full f, refl))))
 
 -- ---- send
 
@@ -82,21 +75,21 @@ module _ (o : Outbox) (l : PPPoS) (buf tx : List ℕ) where
       go (inl h) = h .2 .1
       go (inr h) = absurd (omega (arith, h .1))
 
+  -- none is held or IPv4CP is not Opened
+  silent : (o .held ≡ 0) ⊎ (up l ≡ false) → 0 < o .held → l .ppp .ipv4cp .state ≡ Opened → ⊥
+  silent (inl e) z d = omega arith
+  silent (inr u) z d = true≢false (sym (opened-up l d) ∙ u)
+
   mails : Mails (sendOf o l buf tx)
   mails =
-      by-le (o .size) (length buf)
-      (λ h.
-      by-le 1 (o .held)
-      (λ z.
-      by-test (up l)
-      (λ u.
-      subst Mails (sym (send-up o l buf tx h (λ e. omega arith) u))
-      (cond-by Mails frontHolds
-      (λ t. inr ((λ k. omega arith), inr ((λ x. omega (arith, x .2, leb-true (length (frame (remoteMap l) (ipFrame (frontIn o buf)))) (length tx) t)), refl)))
-      (λ t. inr ((λ k. omega arith), inl (refl, (omega arith, up-opened l u, leb-false (length (frame (remoteMap l) (ipFrame (frontIn o buf)))) (length tx) t), (refl, refl, stopped t))))))
-      (λ u. subst Mails (sym (send-down o l buf tx h (λ e. omega arith) u)) (inr ((λ k. omega arith), inr ((λ x. true≢false (sym (opened-up l (x .1)) ∙ u)), refl)))))
-      (λ z. subst Mails (sym (send-none o l buf tx h (omega arith))) (inr ((λ k. omega arith), inr ((λ x. omega (arith, x .0)), refl)))))
-      (λ h. subst Mails (sym (send-short o l buf tx h)) (inl (refl, h, (refl, refl, refl))))
+      send-cases o l buf tx Mails
+      (λ h. inl (refl, h, (refl, refl, refl)))
+      (λ h e. inr ((λ k. omega arith), inr ((λ x. silent e (x .0) (x .1)), refl)))
+      (λ h some u t. inr ((λ k. omega arith), inl (refl, (omega (arith, some-held some), up-opened l u, leb-false (length (frame (remoteMap l) (ipFrame (frontIn o buf)))) (length tx) t), (refl, refl, stopped t))))
+      (λ h some u t. inr ((λ k. omega arith), inr ((λ x. omega (arith, x .2, leb-true (length (frame (remoteMap l) (ipFrame (frontIn o buf)))) (length tx) t)), refl)))
+    where
+      some-held : (o .held ≡ 0 → ⊥) → 0 < o .held
+      some-held some = by-le 1 (o .held) (λ h. omega arith) (λ h. absurd (some (omega arith)))
 
 -- each call as its contract has it
 pub record OutboxHolds : Type 0 where

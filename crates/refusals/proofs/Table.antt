@@ -39,6 +39,7 @@ pub record TableHolds : Type 0 where
   pub consume : (l : PPPoS) (rx bs : List ℕ) {o : Outcome} {n : ℕ} {l′ : PPPoS} {rx′ : List ℕ} → Consumes l rx bs o n l′ rx′
       → Exactly ⊥ (consumeRows (l .«frame_reader» .len) l rx) (outcomeNumber o) (record { count = n; kept = l′; rx = rx′ })
   pub poll : (l : PPPoS) (rx : List ℕ) → PollHolds l rx
+  -- `send`, and `send_parts` with the join of its parts
   pub send : (l : PPPoS) (pkt tx : List ℕ) {o : Outcome} {n : ℕ} {tx′ : List ℕ} → Sends l pkt tx o n tx′
       → Exactly ⊥ (sendRows l pkt tx) (outcomeNumber o) (record { count = n; bytes = tx′ })
   pub lines : (s : Status) (buf : List ℕ) {o : framed.Outcome} {n : ℕ} {buf′ : List ℕ} → Shows s buf o n buf′

@@ -3,11 +3,11 @@ use native.Mathlib.Omega.{arith}
 use mathlib.Core.Path.{_≡_, ap, sym, _∙_}
 use Prim.Native.Nat.{_+_, _-_}
 use lib.ListN.{take, drop}
-use lib.Seq.{length-take-le}
+use lib.Seq.{length-take-le, take-all}
 use Rattle.outbox.specs.Ring.{around}
 use Rattle.outbox.specs.Outbox.{content, first}
 use Rattle.outbox.proofs.Contents.{first-fits, front-one, front-two}
-use Rattle.outbox.proofs.Sending.{no-bytes, sends-as}
+use Rattle.outbox.proofs.Sending.{sends-as}
 use borrow.Author.Needs.{needs}
 use Rattle.outbox.proofs.outbox.Outbox.send_front.Statement.{statement}
 use Rattle.outbox.proofs.outbox.Outbox.send_front.Tie as tie
@@ -25,7 +25,7 @@ returns : tie.Need-returns
 returns c = let s = c .before .before .before .before .before .before .before .before in
     let a = s .args in
     let buf = now (a .buf) in
-    sends-as (no-bytes (first (content (a .self) buf)) (sym (s .pre .1) ∙ c .before .before .before .before .before .if1 .taken)) (c .before .before .send .ensures)
+    sends-as (take-all 0 (first (content (a .self) buf)) (omega (arith, s .pre .1, c .before .before .before .before .before .if1 .taken))) (c .before .before .send .ensures)
 
 start-requires : tie.Need-start-requires
 start-requires c κs = search needs
