@@ -16,4 +16,5 @@ pub mod Run
 pub mod SameReading
 pub mod Stuffing
 pub mod Unstuffing
+mod Walking
 pub mod Writes

@@ -45,6 +45,11 @@ pub record Ran (us : List (List ℕ)) (buf : List ℕ) (at : ℕ) (buf′ : List
   pub same-at : at′ ≡ write us buf at .at
   pub same-done : t ≡ write us buf at .done
 
+-- the bytes bs walked once, from index at of buf and the check value c: their units are run, and where all fitted the check value is that behind bs
+pub record Walked (m : ℕ) (bs buf : List ℕ) (at c : ℕ) (buf′ : List ℕ) (at′ c′ : ℕ) (t : Bool) : Type 0 where
+  pub ran : Ran (units m bs) buf at buf′ at′ t
+  pub check : t ≡ true → c′ ≡ fcs c bs
+
 abbrev pub freshWriter : ℕ → FrameWriter
 freshWriter m = record { len = 0; crc = 0; asyncmap = m }
 

@@ -9,7 +9,7 @@ fn wide(x: u8) -> u16
 }
 
 // One byte.
-fn step(seed: u16, b: u8) -> u16
+pub(crate) fn step(seed: u16, b: u8) -> u16
     ensures { λ r. ⌜ r ≡ fcsByte seed b ⌝ }
 {
     let e = ((seed % 256) as u8) ^ b;

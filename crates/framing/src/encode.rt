@@ -3,16 +3,17 @@ ghost use mathlib.Core.Path.{_≡_};
 ghost use mathlib.Core.List.{_++_};
 ghost use Prim.Native.Nat.{_*_, _≤_};
 ghost use lib.ListN.{length};
-ghost use Rattle.framing.specs.Rfc1662.{fcs, unit, stuffed, frame};
-ghost use Rattle.framing.specs.Writer.{units, frameUnits, Ran, Encodes, capped};
+ghost use Rattle.framing.specs.Rfc1662.{unit, stuffed, frame};
+ghost use Rattle.framing.specs.Writer.{frameUnits, Ran, Walked, Encodes, capped};
 use crate::crc::crc16;
+use crate::frame_writer::Progress;
 use crate::frame_writer::STARTED;
 use crate::frame_writer::Spot;
-use crate::frame_writer::append_escaped;
 use crate::frame_writer::check_bytes;
 use crate::frame_writer::escapes;
 use crate::frame_writer::finish_at;
 use crate::frame_writer::start_at;
+use crate::frame_writer::walk;
 use crate::refusal::Outcome;
 use crate::refusal::Refusal;
 
@@ -22,37 +23,44 @@ pub struct Encoded {
     pub count: usize,
 }
 
-// The bytes of two parts as they are sent.
-fn parts_at(buf: &mut [u8], at: usize, asyncmap: u32, head: &[u8], rest: &[u8]) -> Spot
+// Two parts, walked one behind the other.
+fn parts_at(
+    buf: &mut [u8],
+    at: usize,
+    asyncmap: u32,
+    crc: u16,
+    head: &[u8],
+    rest: &[u8],
+) -> Progress
     requires { ⌜ at ≤ length (now buf) ⌝ }
-    ensures { λ r. ⌜ Ran (units asyncmap (now (head .entry) ++ now (rest .entry))) (now (buf .entry)) at (now (buf .exit)) (r .at) (r .done) ⌝ }
+    ensures { λ r. ⌜ Walked asyncmap (now (head .entry) ++ now (rest .entry)) (now (buf .entry)) at crc (now (buf .exit)) (r .spot .at) (r .crc) (r .spot .done) ⌝ }
 {
-    let p = append_escaped(buf, at, asyncmap, head);
-    if !p.done {
-        return p;
+    let w = walk(buf, at, asyncmap, crc, head);
+    if !w.spot.done {
+        return w;
     }
-    let next = p.at;
-    append_escaped(buf, next, asyncmap, rest)
+    let next = w.spot.at;
+    walk(buf, next, asyncmap, w.crc, rest)
 }
 
-// The bytes of three parts as they are sent.
-fn body_at(buf: &mut [u8], at: usize, asyncmap: u32, head: &[u8], part: &[u8], rest: &[u8]) -> Spot
+// Three parts behind FF 03, walked one behind the other.
+fn body_at(
+    buf: &mut [u8],
+    at: usize,
+    asyncmap: u32,
+    head: &[u8],
+    part: &[u8],
+    rest: &[u8],
+) -> Progress
     requires { ⌜ at ≤ length (now buf) ⌝ }
-    ensures { λ r. ⌜ Ran (units asyncmap (now (head .entry) ++ (now (part .entry) ++ now (rest .entry)))) (now (buf .entry)) at (now (buf .exit)) (r .at) (r .done) ⌝ }
+    ensures { λ r. ⌜ Walked asyncmap (now (head .entry) ++ (now (part .entry) ++ now (rest .entry))) (now (buf .entry)) at 0x3DE3 (now (buf .exit)) (r .spot .at) (r .crc) (r .spot .done) ⌝ }
 {
-    let p = append_escaped(buf, at, asyncmap, head);
-    if !p.done {
-        return p;
+    let w = walk(buf, at, asyncmap, STARTED, head);
+    if !w.spot.done {
+        return w;
     }
-    let next = p.at;
-    parts_at(buf, next, asyncmap, part, rest)
-}
-
-// The check value behind FF 03 and three parts.
-fn body_crc(head: &[u8], part: &[u8], rest: &[u8]) -> u16
-    ensures { λ r. ⌜ r ≡ fcs 0x3DE3 (now (head .entry) ++ (now (part .entry) ++ now (rest .entry))) ⌝ }
-{
-    crc16(crc16(crc16(STARTED, head), part), rest)
+    let next = w.spot.at;
+    parts_at(buf, next, asyncmap, w.crc, part, rest)
 }
 
 // The frame of a packet that lies in three parts.
@@ -65,13 +73,12 @@ fn frame_at(buf: &mut [u8], at: usize, asyncmap: u32, head: &[u8], part: &[u8], 
         return s;
     }
     let next = s.at;
-    let p = body_at(buf, next, asyncmap, head, part, rest);
-    if !p.done {
-        return p;
+    let w = body_at(buf, next, asyncmap, head, part, rest);
+    if !w.spot.done {
+        return w.spot;
     }
-    let last = p.at;
-    let crc = body_crc(head, part, rest);
-    finish_at(buf, last, asyncmap, crc)
+    let last = w.spot.at;
+    finish_at(buf, last, asyncmap, w.crc)
 }
 
 // The frame of a packet that lies in three parts, from the front of `buf`.

@@ -6,8 +6,8 @@ ghost use Prim.Native.Nat.{_/_, _%_, _≤_};
 ghost use lib.ListN.{length};
 ghost use Rattle.framing.specs.Rfc1662.{escaped, unit, checkBytes};
 ghost use Rattle.framing.specs.Refusal.{outcomeNumber};
-ghost use Rattle.framing.specs.Writer.{units, startUnits, finishUnits, Ran, freshWriter, written, Starts, Appends, Finishes};
-use crate::crc::crc16;
+ghost use Rattle.framing.specs.Writer.{startUnits, finishUnits, Ran, Walked, freshWriter, written, Starts, Appends, Finishes};
+use crate::crc::step;
 use crate::refusal::Outcome;
 use crate::refusal::Refusal;
 
@@ -31,13 +31,10 @@ pub(crate) struct Spot {
     pub(crate) at: usize,
 }
 
-pub(crate) fn escapes(asyncmap: u32, b: u8) -> bool
-    ensures { λ r. ⌜ r ≡ escaped asyncmap b ⌝ }
-{
-    if b < 0x20 {
-        return (asyncmap >> (b as u32)) % 2 == 1;
-    }
-    b == 0x7D || b == 0x7E
+// How far a walk over bytes got, and the check value behind them where all fitted.
+pub(crate) struct Progress {
+    pub(crate) spot: Spot,
+    pub(crate) crc: u16,
 }
 
 // A unit of one byte.
@@ -71,6 +68,16 @@ fn append_two(buf: &mut [u8], at: usize, a: u8, b: u8) -> Spot
     }
 }
 
+// Which bytes are escaped: 7D, 7E, and what the map says below 20.
+pub(crate) fn escapes(asyncmap: u32, b: u8) -> bool
+    ensures { λ r. ⌜ r ≡ escaped asyncmap b ⌝ }
+{
+    if b < 0x20 {
+        return (asyncmap >> (b as u32)) % 2 == 1;
+    }
+    b == 0x7D || b == 0x7E
+}
+
 // A byte as it is sent.
 fn append_byte(buf: &mut [u8], at: usize, asyncmap: u32, b: u8) -> Spot
     requires { ⌜ at ≤ length (now buf) ⌝ }
@@ -82,22 +89,25 @@ fn append_byte(buf: &mut [u8], at: usize, asyncmap: u32, b: u8) -> Spot
     append_one(buf, at, b)
 }
 
-// Bytes as they are sent, up to the first that does not fit.
-pub(crate) fn append_escaped(buf: &mut [u8], at: usize, asyncmap: u32, src: &[u8]) -> Spot
+// Each byte once, up to the first that does not fit: the check value steps over the byte as it is, and beside that it is written as it is sent.
+pub(crate) fn walk(buf: &mut [u8], at: usize, asyncmap: u32, crc: u16, src: &[u8]) -> Progress
     requires { ⌜ at ≤ length (now buf) ⌝ }
-    ensures { λ r. ⌜ Ran (units asyncmap (now (src .entry))) (now (buf .entry)) at (now (buf .exit)) (r .at) (r .done) ⌝ }
+    ensures { λ r. ⌜ Walked asyncmap (now (src .entry)) (now (buf .entry)) at crc (now (buf .exit)) (r .spot .at) (r .crc) (r .spot .done) ⌝ }
 {
     let mut p = Spot { done: true, at };
+    let mut check = crc;
     let mut i = 0;
-    while i < src.len() {
+    while p.done && i < src.len() {
+        let b = src[i];
         let at = p.at;
-        p = append_byte(buf, at, asyncmap, src[i]);
-        if !p.done {
-            return p;
-        }
+        check = step(check, b);
+        p = append_byte(buf, at, asyncmap, b);
         i += 1;
     }
-    p
+    Progress {
+        spot: p,
+        crc: check,
+    }
 }
 
 // 7E FF, and the control byte.
@@ -131,12 +141,17 @@ pub(crate) fn finish_at(buf: &mut [u8], at: usize, asyncmap: u32, crc: u16) -> S
     ensures { λ r. ⌜ Ran (finishUnits asyncmap crc) (now (buf .entry)) at (now (buf .exit)) (r .at) (r .done) ⌝ }
 {
     let check = check_bytes(crc);
-    let p = append_escaped(buf, at, asyncmap, &check);
+    let p = append_byte(buf, at, asyncmap, check[0]);
     if !p.done {
         return p;
     }
     let next = p.at;
-    append_one(buf, next, 0x7E)
+    let q = append_byte(buf, next, asyncmap, check[1]);
+    if !q.done {
+        return q;
+    }
+    let last = q.at;
+    append_one(buf, last, 0x7E)
 }
 
 pub(crate) fn check_bytes(crc: u16) -> [u8; 2]
@@ -218,9 +233,8 @@ impl FrameWriter {
         if buf.len() < at {
             return short(self);
         }
-        let p = append_escaped(buf, at, self.asyncmap, src);
-        let crc = crc16(self.crc, src);
-        answer(p, self.crc, crc, self.asyncmap)
+        let w = walk(buf, at, self.asyncmap, self.crc, src);
+        answer(w.spot, self.crc, w.crc, self.asyncmap)
     }
 
     pub fn finish(self, buf: &mut [u8]) -> Wrote

@@ -1,13 +1,13 @@
 use borrow.Author.Tests.{not-true, not-false}
 use denote.Ref.{now}
-use Rattle.framing.specs.Writer.{units}
-use Rattle.framing.proofs.Run.{run-stop, run-then, run-within, units-append}
+use Rattle.framing.proofs.Run.{run-within}
+use Rattle.framing.proofs.Walking.{walked-stop, walked-then}
 use borrow.Author.Needs.{needs}
 use Rattle.framing.proofs.encode.parts_at.Statement.{statement}
 use Rattle.framing.proofs.encode.parts_at.Tie as tie
 
-append-escaped-requires : tie.Need-append-escaped-requires
-append-escaped-requires c κs = search needs
+walk-requires : tie.Need-walk-requires
+walk-requires c κs = search needs
 
 same-length : tie.Need-same-length
 same-length c = search needs
@@ -15,27 +15,22 @@ same-length c = search needs
 returns : tie.Need-returns
 returns c =
     let p = c .before .before .before .before in
-    let a = c .before .before .before .before .before .before .before .before .before .args in
-    rw (units-append (a .asyncmap) (now (a .head)) (now (a .rest))) (run-stop (p .append-escaped .ensures) (not-true _ (c .if1 .taken)) (units (a .asyncmap) (now (a .rest))))
+    walked-stop (p .walk .ensures) (not-true _ (c .if1 .taken)) (now (p .before .before .before .before .before .args .rest))
 
-append-escaped-requires-2 : tie.Need-append-escaped-requires-2
-append-escaped-requires-2 c κs = run-within (c .before .before .before .before .before .append-escaped .ensures) (c .before .before .before .before .before .before .before .before .before .before .pre)
+walk-requires-2 : tie.Need-walk-requires-2
+walk-requires-2 c κs =
+    let p = c .before .before .before .before .before in
+    run-within (p .walk .ensures .ran) (p .before .before .before .before .before .pre)
 
 same-length-2 : tie.Need-same-length-2
 same-length-2 c = search needs
 
 returns-2 : tie.Need-returns-2
 returns-2 c =
-    let a = c .before .before .before .before .before .before .before .before .before .before .before .before .before .args in
-    rw (units-append (a .asyncmap) (now (a .head)) (now (a .rest))) (run-then (c .before .before .before .before .before .before .before .before .append-escaped .ensures) (not-false _ (c .before .before .before .before .if1 .left)) (c .before .before .append-escaped2 .ensures))
+    let e = c .before .before .before .before in
+    walked-then (e .before .before .before .before .walk .ensures) (not-false _ (e .if1 .left)) (c .before .before .walk2 .ensures)
 
 pub parts-at-spec : {M : Type 1} → statement M
 parts-at-spec =
     tie.close
-    (tie.spec
-    append-escaped-requires
-    same-length
-    returns
-    append-escaped-requires-2
-    same-length-2
-    returns-2)
+    (tie.spec walk-requires same-length returns walk-requires-2 same-length-2 returns-2)

@@ -1,4 +1,6 @@
+use mathlib.Core.Path.{_∙_}
 use Rattle.framing.proofs.Writes.{writes-short, writes-ran}
+use Rattle.framing.proofs.Walking.{walked-writer}
 use borrow.Author.Needs.{needs}
 use Rattle.framing.proofs.frame_writer.FrameWriter.append.Statement.{statement}
 use Rattle.framing.proofs.frame_writer.FrameWriter.append.Tie as tie
@@ -9,11 +11,8 @@ short-requires c κs = search needs
 returns : tie.Need-returns
 returns c = writes-short (c .before .if1 .taken) (c .short .ensures .0) (c .short .ensures .1)
 
-append-escaped-requires : tie.Need-append-escaped-requires
-append-escaped-requires c κs = search needs
-
-crc16-requires : tie.Need-crc16-requires
-crc16-requires c κs = search needs
+walk-requires : tie.Need-walk-requires
+walk-requires c κs = search needs
 
 answer-requires : tie.Need-answer-requires
 answer-requires c κs = search needs
@@ -22,16 +21,12 @@ same-length : tie.Need-same-length
 same-length c = search needs
 
 returns-2 : tie.Need-returns-2
-returns-2 c = writes-ran (c .before .before .before .before .before .before .if1 .left) (c .before .before .before .before .append-escaped .ensures) (c .answer .ensures .0) (rw (c .before .crc16 .ensures) at (c .answer .ensures .1))
+returns-2 c =
+    let w = c .before .before .before in
+    let f = w .before .before .before .before .before .args .self in
+    writes-ran (w .before .before .if1 .left) (w .walk .ensures .ran) (c .answer .ensures .0) (c .answer .ensures .1 ∙ walked-writer (w .walk .ensures) (f .crc) (f .asyncmap))
 
 pub append-spec : {M : Type 1} → statement M
 append-spec =
     tie.close
-    (tie.spec
-    short-requires
-    returns
-    append-escaped-requires
-    crc16-requires
-    answer-requires
-    same-length
-    returns-2)
+    (tie.spec short-requires returns walk-requires answer-requires same-length returns-2)
