@@ -1,7 +1,7 @@
 //! The check value and the frame of one packet, the static library beside the crate.
 //!
 //! With no argument: a line for each case, its name and the nanoseconds of a call of the library and of the crate, each the best of
-//! several rounds that take turns. With the number of a case and `ours` or `crate`: ten calls inside `measured`, to count instructions.
+//! several rounds that take turns. With the number of a case, `ours` or `crate`, and a number: so many calls, to count instructions.
 #[path = "crate/crc.rs"]
 mod crc;
 #[path = "crate/frame_writer.rs"]
@@ -24,7 +24,6 @@ extern "C" {
 
 const ROUNDS: usize = 40;
 const ROUND_BYTES: usize = 200_000;
-const COUNTED: usize = 10;
 
 enum What {
     Crc,
@@ -117,9 +116,10 @@ fn main() {
     let mut buf = vec![0; 2 * 65536 + 9];
     let mut other = buf.clone();
     let words: Vec<String> = std::env::args().collect();
-    if words.len() == 3 {
+    if words.len() == 4 {
         let i: usize = words[1].parse().unwrap();
-        measured(words[2] == "ours", &cases()[i], &mut buf, COUNTED);
+        let times: usize = words[3].parse().unwrap();
+        measured(words[2] == "ours", &cases()[i], &mut buf, times);
         return;
     }
     for case in cases() {

@@ -1,7 +1,7 @@
 -- Laws of a walk over bytes: what stopped it stays, and one behind another is the walk over both.
 -- Assumes nothing.
 use mathlib.Core.Path.{_≡_, refl, ap, sym, _∙_}
-use mathlib.Core.Bool.{Bool, true, false, cond}
+use mathlib.Core.Bool.{Bool, true, false}
 use mathlib.Core.List.{List, _++_}
 use Prim.Native.Nat.{ℕ}
 use Rattle.laws.proofs.Cases.{cond-both}

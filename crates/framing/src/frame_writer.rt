@@ -6,7 +6,7 @@ ghost use Prim.Native.Nat.{_/_, _%_, _≤_};
 ghost use lib.ListN.{length};
 ghost use Rattle.framing.specs.Rfc1662.{escaped, unit, checkBytes};
 ghost use Rattle.framing.specs.Refusal.{outcomeNumber};
-ghost use Rattle.framing.specs.Writer.{startUnits, finishUnits, Ran, Walked, freshWriter, written, Starts, Appends, Finishes};
+ghost use Rattle.framing.specs.Writer.{units, startUnits, finishUnits, Ran, Walked, freshWriter, written, Starts, Appends, Finishes};
 use crate::crc::step;
 use crate::refusal::Outcome;
 use crate::refusal::Refusal;
@@ -135,10 +135,17 @@ fn high(x: u16) -> u8
     (x / 256) as u8
 }
 
-// The check value, inverted, low byte first; and 7E.
-pub(crate) fn finish_at(buf: &mut [u8], at: usize, asyncmap: u32, crc: u16) -> Spot
+pub(crate) fn check_bytes(crc: u16) -> [u8; 2]
+    ensures { λ r. ⌜ r ≡ checkBytes crc ⌝ }
+{
+    let c = crc ^ 0xFFFF;
+    [low(c), high(c)]
+}
+
+// The check value, inverted, low byte first.
+fn check_at(buf: &mut [u8], at: usize, asyncmap: u32, crc: u16) -> Spot
     requires { ⌜ at ≤ length (now buf) ⌝ }
-    ensures { λ r. ⌜ Ran (finishUnits asyncmap crc) (now (buf .entry)) at (now (buf .exit)) (r .at) (r .done) ⌝ }
+    ensures { λ r. ⌜ Ran (units asyncmap (checkBytes crc)) (now (buf .entry)) at (now (buf .exit)) (r .at) (r .done) ⌝ }
 {
     let check = check_bytes(crc);
     let p = append_byte(buf, at, asyncmap, check[0]);
@@ -146,19 +153,20 @@ pub(crate) fn finish_at(buf: &mut [u8], at: usize, asyncmap: u32, crc: u16) -> S
         return p;
     }
     let next = p.at;
-    let q = append_byte(buf, next, asyncmap, check[1]);
-    if !q.done {
-        return q;
-    }
-    let last = q.at;
-    append_one(buf, last, 0x7E)
+    append_byte(buf, next, asyncmap, check[1])
 }
 
-pub(crate) fn check_bytes(crc: u16) -> [u8; 2]
-    ensures { λ r. ⌜ r ≡ checkBytes crc ⌝ }
+// The check value, and 7E.
+pub(crate) fn finish_at(buf: &mut [u8], at: usize, asyncmap: u32, crc: u16) -> Spot
+    requires { ⌜ at ≤ length (now buf) ⌝ }
+    ensures { λ r. ⌜ Ran (finishUnits asyncmap crc) (now (buf .entry)) at (now (buf .exit)) (r .at) (r .done) ⌝ }
 {
-    let c = crc ^ 0xFFFF;
-    [low(c), high(c)]
+    let p = check_at(buf, at, asyncmap, crc);
+    if !p.done {
+        return p;
+    }
+    let next = p.at;
+    append_one(buf, next, 0x7E)
 }
 
 // The answer from where a run got to; a refused run leaves the check value `full`.
