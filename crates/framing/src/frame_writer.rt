@@ -89,7 +89,7 @@ fn append_byte(buf: &mut [u8], at: usize, asyncmap: u32, b: u8) -> Spot
     append_one(buf, at, b)
 }
 
-// Each byte once, up to the first that does not fit: the check value steps over the byte as it is, and beside that it is written as it is sent.
+// Each byte once, up to the first that does not fit: the check value steps over it as it is, and beside that it is written as it is sent.
 pub(crate) fn walk(buf: &mut [u8], at: usize, asyncmap: u32, crc: u16, src: &[u8]) -> Progress
     requires { ⌜ at ≤ length (now buf) ⌝ }
     ensures { λ r. ⌜ Walked asyncmap (now (src .entry)) (now (buf .entry)) at crc (now (buf .exit)) (r .spot .at) (r .crc) (r .spot .done) ⌝ }

@@ -23,7 +23,7 @@ Inv-loop buf₀ at asyncmap crc src p₀ check₀ i₀ buf p check i =
 abbrev μ-loop : tie.MeasureT-loop
 μ-loop buf₀ at asyncmap crc src p₀ check₀ i₀ buf p check i = length src - i
 
--- at a byte there is a byte
+-- in the body there is a byte at i
 byte : (c : tie.Then1 Inv-loop μ-loop) → c .before .before .loop .i < length (now (c .before .before .before .before .before .args .src))
 byte c = ltb-true _ _ (c .if1 .taken)
 
