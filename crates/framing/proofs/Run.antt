@@ -49,31 +49,31 @@ write-append (u ∷ us) vs buf at =
     (bind-cond (leb (at + length u) (length buf)) (write us (sets buf at u) (at + length u)) buf at (write vs))
 
 -- what is left, done from here: a run that was done goes on with vs, and one that was stopped stays
-abbrev pub left : Bool → List ℕ → ℕ → List (List ℕ) → Out
-left t buf at vs = bind (record { bytes = buf; at = at; done = t }) (write vs)
+abbrev pub onward : Bool → List ℕ → ℕ → List (List ℕ) → Out
+onward t buf at vs = bind (record { bytes = buf; at = at; done = t }) (write vs)
 
 -- a run, and from there what is left behind it, is the whole
-pub left-turn : {us : List (List ℕ)} {buf buf′ : List ℕ} {at at′ : ℕ} {t : Bool} → Ran us buf at buf′ at′ t → (vs : List (List ℕ)) → left t buf′ at′ vs ≡ write (us ++ vs) buf at
-left-turn {us} {buf} {buf′} {at} l vs = rw (l .same-bytes, l .same-at, l .same-done) (sym (write-append us vs buf at))
+pub onward-turn : {us : List (List ℕ)} {buf buf′ : List ℕ} {at at′ : ℕ} {t : Bool} → Ran us buf at buf′ at′ t → (vs : List (List ℕ)) → onward t buf′ at′ vs ≡ write (us ++ vs) buf at
+onward-turn {us} {buf} {buf′} {at} l vs = rw (l .same-bytes, l .same-at, l .same-done) (sym (write-append us vs buf at))
 
 ran-of : {us : List (List ℕ)} {buf₀ buf : List ℕ} {at₀ at : ℕ} {t : Bool} → record { bytes = buf; at = at; done = t } ≡ write us buf₀ at₀ → Ran us buf₀ at₀ buf at t
 ran-of e = record { same-bytes = ap (λ (o : Out). o .bytes) e; same-at = ap (λ (o : Out). o .at) e; same-done = ap (λ (o : Out). o .done) e }
 
 -- where the run was stopped, or where no unit is left, all is done
-pub left-stop : {us : List (List ℕ)} {buf₀ buf : List ℕ} {at₀ at : ℕ} {t : Bool} → (vs : List (List ℕ)) → left t buf at vs ≡ write us buf₀ at₀ → t ≡ false → Ran us buf₀ at₀ buf at t
-left-stop vs l e = rw e (ran-of (rw e at l))
+pub onward-stop : {us : List (List ℕ)} {buf₀ buf : List ℕ} {at₀ at : ℕ} {t : Bool} → (vs : List (List ℕ)) → onward t buf at vs ≡ write us buf₀ at₀ → t ≡ false → Ran us buf₀ at₀ buf at t
+onward-stop vs l e = rw e (ran-of (rw e at l))
 
-pub left-none : {us : List (List ℕ)} {buf₀ buf : List ℕ} {at₀ at : ℕ} → (t : Bool) → left t buf at [] ≡ write us buf₀ at₀ → Ran us buf₀ at₀ buf at t
+pub onward-none : {us : List (List ℕ)} {buf₀ buf : List ℕ} {at₀ at : ℕ} → (t : Bool) → onward t buf at [] ≡ write us buf₀ at₀ → Ran us buf₀ at₀ buf at t
 unfolding write
-left-none true l = ran-of l
-left-none false l = ran-of l
+onward-none true l = ran-of l
+onward-none false l = ran-of l
 
 -- a run that was done goes on from where it ended, and one that was stopped stays
 pub run-next : {us : List (List ℕ)} {buf buf′ : List ℕ} {at at′ : ℕ} {t : Bool} → Ran us buf at buf′ at′ t → t ≡ true → (vs : List (List ℕ)) → write (us ++ vs) buf at ≡ write vs buf′ at′
-run-next l e vs = sym (rw e at (left-turn l vs))
+run-next l e vs = sym (rw e at (onward-turn l vs))
 
 pub run-stop : {us : List (List ℕ)} {buf buf′ : List ℕ} {at at′ : ℕ} {t : Bool} → Ran us buf at buf′ at′ t → t ≡ false → (vs : List (List ℕ)) → Ran (us ++ vs) buf at buf′ at′ t
-run-stop l e vs = left-stop vs (left-turn l vs) e
+run-stop l e vs = onward-stop vs (onward-turn l vs) e
 
 -- a run that leaves what another leaves
 pub run-is : {us vs : List (List ℕ)} {buf buf₀ buf′ : List ℕ} {at at₀ at′ : ℕ} {t : Bool} → Ran us buf at buf′ at′ t → write us buf at ≡ write vs buf₀ at₀ → Ran vs buf₀ at₀ buf′ at′ t

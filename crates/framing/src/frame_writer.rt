@@ -135,6 +135,7 @@ fn high(x: u16) -> u8
     (x / 256) as u8
 }
 
+// The check value as it goes out: inverted, low byte first.
 pub(crate) fn check_bytes(crc: u16) -> [u8; 2]
     ensures { λ r. ⌜ r ≡ checkBytes crc ⌝ }
 {
@@ -142,7 +143,7 @@ pub(crate) fn check_bytes(crc: u16) -> [u8; 2]
     [low(c), high(c)]
 }
 
-// The check value, inverted, low byte first.
+// The check bytes as they are sent: no check value goes over them, so they are not walked.
 fn check_at(buf: &mut [u8], at: usize, asyncmap: u32, crc: u16) -> Spot
     requires { ⌜ at ≤ length (now buf) ⌝ }
     ensures { λ r. ⌜ Ran (units asyncmap (checkBytes crc)) (now (buf .entry)) at (now (buf .exit)) (r .at) (r .done) ⌝ }
@@ -156,7 +157,7 @@ fn check_at(buf: &mut [u8], at: usize, asyncmap: u32, crc: u16) -> Spot
     append_byte(buf, next, asyncmap, check[1])
 }
 
-// The check value, and 7E.
+// The check bytes, and 7E.
 pub(crate) fn finish_at(buf: &mut [u8], at: usize, asyncmap: u32, crc: u16) -> Spot
     requires { ⌜ at ≤ length (now buf) ⌝ }
     ensures { λ r. ⌜ Ran (finishUnits asyncmap crc) (now (buf .entry)) at (now (buf .exit)) (r .at) (r .done) ⌝ }

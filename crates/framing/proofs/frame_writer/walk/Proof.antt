@@ -8,7 +8,7 @@ use denote.Ref.{now}
 use lib.ListN.{length, drop, drop-of-length-le}
 use Rattle.framing.specs.Rfc1662.{fcs}
 use Rattle.framing.specs.Writer.{units, write}
-use Rattle.framing.proofs.Run.{left, left-turn, left-stop, left-none, run-within, units-drop}
+use Rattle.framing.proofs.Run.{onward, onward-turn, onward-stop, onward-none, run-within, units-drop}
 use Rattle.framing.proofs.Fcs.{fcs-turn, fcs-end}
 use Rattle.framing.proofs.frame_writer.walk.Statement.{statement}
 use Rattle.framing.proofs.frame_writer.walk.Tie as tie
@@ -17,7 +17,7 @@ use Rattle.framing.proofs.frame_writer.walk.Tie as tie
 abbrev Inv-loop : tie.InvT-loop
 Inv-loop buf₀ at asyncmap crc src p₀ check₀ i₀ buf p check i =
     (i ≤ length src) × (p .at ≤ length buf) × (length buf ≡ length buf₀)
-    × (left (p .done) buf (p .at) (units asyncmap (drop i src)) ≡ write (units asyncmap src) buf₀ at)
+    × (onward (p .done) buf (p .at) (units asyncmap (drop i src)) ≡ write (units asyncmap src) buf₀ at)
     × (fcs check (drop i src) ≡ fcs crc src)
 
 abbrev μ-loop : tie.MeasureT-loop
@@ -58,7 +58,7 @@ loop-again c =
       omega (arith, h),
       run-within (t .append-byte .ensures) (l .loop .inv .1),
       search needs,
-      left-turn (t .append-byte .ensures) (units (a .asyncmap) (drop (n + 1) (now (a .src)))) ∙ rw (b .before .loop-test .taken, u) at (l .loop .inv .3),
+      onward-turn (t .append-byte .ensures) (units (a .asyncmap) (drop (n + 1) (now (a .src)))) ∙ rw (b .before .loop-test .taken, u) at (l .loop .inv .3),
       fcs-turn _ _ n (now (a .src)) h (k .step .ensures) (l .loop .inv .4),
     )
 
@@ -72,7 +72,7 @@ returns c =
     let s = now (l .before .before .before .args .src) in
     let h = ltb-false _ _ (c .if1 .left) in
     let e : drop (l .loop .i) s ≡ [] = drop-of-length-le s h in
-    record { ran = left-none (l .loop .p .done) (rw e at (l .loop .inv .3)); check = λ _. sym (fcs-end _ (l .loop .i) s h) ∙ l .loop .inv .4 }
+    record { ran = onward-none (l .loop .p .done) (rw e at (l .loop .inv .3)); check = λ _. sym (fcs-end _ (l .loop .i) s h) ∙ l .loop .inv .4 }
 
 same-length-2 : tie.Need-same-length-2 Inv-loop μ-loop
 same-length-2 c = search needs
@@ -81,7 +81,7 @@ returns-2 : tie.Need-returns-2 Inv-loop μ-loop
 returns-2 c =
     let l = c .before in
     let a = l .before .before .before .args in
-    record { ran = left-stop (units (a .asyncmap) (drop (l .loop .i) (now (a .src)))) (l .loop .inv .3) (c .loop-test .left); check = λ d. cc }
+    record { ran = onward-stop (units (a .asyncmap) (drop (l .loop .i) (now (a .src)))) (l .loop .inv .3) (c .loop-test .left); check = λ d. cc }
 
 pub walk-spec : {M : Type 1} → statement M
 walk-spec =
