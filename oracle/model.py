@@ -69,12 +69,21 @@ def frame(asyncmap, payload):
     return b'\x7e\xff' + stuffed(asyncmap, checked(b'\x03' + payload)) + b'\x7e'
 
 
+CAUSES = ('aborted', 'short', 'control', 'check', 'overrun')
+
+
 class Reader:
     def __init__(self, room, fill, standard):
         self.buf, self.room = bytearray([fill]) * room, room
+        self.begin(standard)
+
+    def begin(self, standard):
+        """As fresh, over the buffer as it is."""
         self.state, self.escape, self.kept, self.standard = 'start', False, 0, standard
+        self.drops = dict.fromkeys(CAUSES, 0)
 
     def consume(self, data):
+        self.drops = dict.fromkeys(CAUSES, 0)
         for i, b in enumerate(data):
             if self.state == 'complete':
                 return i
@@ -95,8 +104,17 @@ class Reader:
 
     def end(self):
         kept = self.buf[:self.kept]
-        aborted = self.standard and self.escape
-        good = not aborted and self.kept >= 3 and kept[0] == 0x03 and fcs(0x00FF, kept) == 0xF0B8
+        tests = {
+            'aborted': lambda: self.standard and self.escape,
+            'short': lambda: self.kept < 3,
+            'control': lambda: kept[0] != 0x03,
+            'check': lambda: fcs(0xFFFF, b'\xff' + kept) != 0xF0B8,
+        }
+        # The first that applies counts, in this order.
+        cause = next((cause for cause in tests if tests[cause]()), None)
+        good = cause is None
+        if not good:
+            self.drops[cause] += 1
         self.state = 'complete' if good else 'address'
         if self.standard:
             self.escape = False
@@ -105,6 +123,7 @@ class Reader:
     def store(self, b):
         self.escape = False
         if self.kept >= self.room:
+            self.drops['overrun'] += 1
             self.state, self.kept = 'start', 0
         else:
             self.buf[self.kept] = b
@@ -116,6 +135,9 @@ class Reader:
         got = f'1..{self.kept - 2}'
         self.state, self.kept = 'address', 0
         return got
+
+    def counts(self):
+        return ' '.join(str(self.drops[cause]) for cause in CAUSES)
 
     def shown(self):
         return f'reader={self.state} escape={int(self.escape)} kept={self.kept}'

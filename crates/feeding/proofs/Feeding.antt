@@ -1,6 +1,6 @@
 -- Laws of a fresh link and of a run of received bytes: a turn by what its two calls promise, and turns up to the end.
 -- Assumes nothing.
-use mathlib.Core.Path.{_≡_, refl, ap}
+use mathlib.Core.Path.{_≡_, refl, ap, _∙_}
 use mathlib.Core.Bool.{false}
 use mathlib.Core.List.{List, []}
 use Prim.Native.Nat.{ℕ, zero, suc, _+_, _-_, _*_, _≤_, _<_}
@@ -10,7 +10,10 @@ use lib.Dec.{eqb}
 use lib.ListN.{length, take, drop, length-drop}
 use lib.Seq.{drop-drop}
 use Rattle.laws.proofs.Cases.{by-test, cond-all}
+use Rattle.framing.specs.Drops.{noDrops, together, allOf, dropped}
+use Rattle.framing.specs.declared.drops.Drops.{Drops}
 use Rattle.framing.proofs.Reader.{consumed-left}
+use Rattle.framing.proofs.Dropping.{all-together, dropped-most}
 use Rattle.options.proofs.Walks.{rest}
 use Rattle.link.specs.Link.{Makes, Opens, heldBy, Consumes, pollLink, Polls}
 use Rattle.feeding.specs.Feed.{started, idleAfter, turns, fedLink, Feeds, Progress, progressOf, oneTurn}
@@ -27,16 +30,27 @@ start-polls tx rx n o p = rw (o .link, n .link) at p
 
 -- ---- a turn
 
-pub turn-feeds : {l l′ l″ : PPPoS} {tx′ rx rx′ rx″ bs : List ℕ} {o : Outcome} {n : ℕ} {a : PPPoSAction} (tx : List ℕ)
-    → Consumes l rx bs o n l′ rx′ → Polls (pollLink l′ tx rx′) a l″ tx′ rx″ → Feeds (oneTurn (progressOf l tx rx bs)) bs n l″ tx′ rx″
+pub turn-feeds : {l l′ l″ : PPPoS} {tx′ rx rx′ rx″ bs : List ℕ} {o : Outcome} {n : ℕ} {a : PPPoSAction} {c d′ : Drops} (tx : List ℕ) (d : Drops)
+    → Consumes l rx bs o n l′ rx′ → c ≡ dropped (heldBy l rx) bs → d′ ≡ together d c → Polls (pollLink l′ tx rx′) a l″ tx′ rx″
+    → Feeds (oneTurn (progressOf l tx rx bs d)) bs n l″ d′ tx′ rx″
 unfolding oneTurn
-turn-feeds tx e p =
+turn-feeds tx d e f g p =
     record {
       count = e .count;
       link = rw (e .link, e .bytes) at (p .link);
+      drops = g ∙ ap (together d) f;
       transmit = rw (e .link, e .bytes) at (p .transmit);
       receive = rw (e .link, e .bytes) at (p .receive);
     }
+
+-- a call drops no more frames than it takes bytes, and no more than it is handed
+pub drops-fit : {l l′ : PPPoS} {rx rx′ bs : List ℕ} {o : Outcome} {n m : ℕ} {c : Drops} (d : Drops) → Consumes l rx bs o n l′ rx′ → c ≡ dropped (heldBy l rx) bs
+    → allOf d + length bs < m → allOf d + allOf c < m
+drops-fit {l} {rx = rx} {bs = bs} d e f h = rw f (omega (arith, dropped-most (heldBy l rx) bs))
+
+turn-most : (s : Progress) → allOf (oneTurn s .drops) ≤ allOf (s .drops) + (length (s .left) - length (oneTurn s .left))
+unfolding oneTurn
+turn-most s = omega (arith, all-together (s .drops) (dropped (heldBy (s .link) (s .rx)) (s .left)), dropped-most (heldBy (s .link) (s .rx)) (s .left))
 
 left-is : (s : Progress) → oneTurn s .left ≡ drop (length (s .left) - length (oneTurn s .left)) (s .left)
 unfolding oneTurn
@@ -53,11 +67,11 @@ pub record Ahead (idle : ℕ) (s end : Progress) : Type 0 where
   pub enough : 2 * length (s .left) + 2 ≤ fuel + idle
   pub same : turns fuel idle s ≡ end
 
-pub starts : (l : PPPoS) (tx rx bs : List ℕ) → Ahead 0 (progressOf l tx rx bs) (fedLink l tx rx bs)
+pub starts : (l : PPPoS) (tx rx bs : List ℕ) → Ahead 0 (progressOf l tx rx bs noDrops) (fedLink l tx rx bs)
 unfolding fedLink
 starts l tx rx bs = record { fuel = 2 * length bs + 2; enough = omega arith; same = refl }
 
-goes-on : (idle : ℕ) (s : Progress) {end : Progress} → 0 < length (s .left) → idle < 2 → (k : ℕ) → turns (suc k) idle s ≡ end
+pub goes-on : (idle : ℕ) (s : Progress) {end : Progress} → 0 < length (s .left) → idle < 2 → (k : ℕ) → turns (suc k) idle s ≡ end
     → turns k (idleAfter idle (length (s .left) - length (oneTurn s .left))) (oneTurn s) ≡ end
 unfolding turns
 goes-on idle s h i k e =
@@ -96,23 +110,33 @@ ahead-end idle s {end} h a = go (a .fuel) (a .same)
 -- ---- the loop: at bytes of src are taken
 
 module _ (src : List ℕ) (at : ℕ) where
-  pub within : {n : ℕ} {s : Progress} {l : PPPoS} {tx rx : List ℕ} → at ≤ length src → Feeds s (take (length src - at) (drop at src)) n l tx rx → at + n ≤ length src
+  pub within : {n : ℕ} {s : Progress} {l : PPPoS} {d : Drops} {tx rx : List ℕ} → at ≤ length src → Feeds s (take (length src - at) (drop at src)) n l d tx rx → at + n ≤ length src
   within h f = omega (arith, f .count, ap length (rest src at), length-drop at src)
 
-  pub again : {idle n : ℕ} {l l′ : PPPoS} {tx tx′ rx rx′ : List ℕ} {end : Progress} → at < length src → idle < 2
-      → Ahead idle (progressOf l tx rx (drop at src)) end
-      → Feeds (oneTurn (progressOf l tx rx (take (length src - at) (drop at src)))) (take (length src - at) (drop at src)) n l′ tx′ rx′
-      → Ahead (idleAfter idle n) (progressOf l′ tx′ rx′ (drop (at + n) src)) end
-  again {idle} {l = l} {tx = tx} {rx = rx} h i a f =
-      let s = progressOf l tx rx (drop at src) in
+  pub again : {idle n : ℕ} {l l′ : PPPoS} {d d′ : Drops} {tx tx′ rx rx′ : List ℕ} {end : Progress} → at < length src → idle < 2
+      → Ahead idle (progressOf l tx rx (drop at src) d) end
+      → Feeds (oneTurn (progressOf l tx rx (take (length src - at) (drop at src)) d)) (take (length src - at) (drop at src)) n l′ d′ tx′ rx′
+      → Ahead (idleAfter idle n) (progressOf l′ tx′ rx′ (drop (at + n) src) d′) end
+  again {idle} {l = l} {d = d} {tx = tx} {rx = rx} h i a f =
+      let s = progressOf l tx rx (drop at src) d in
       let g = rw (rest src at) at f in
-      rw (← drop-drop, g .link, g .transmit, g .receive, g .count, ← left-is s) (ahead-next idle s (rw length-drop (omega arith)) i a)
+      rw (← drop-drop, g .link, g .drops, g .transmit, g .receive, g .count, ← left-is s) (ahead-next idle s (rw length-drop (omega arith)) i a)
 
-  pub finished : {idle : ℕ} {l : PPPoS} {tx rx : List ℕ} {end : Progress} → at ≤ length src → (at < length src → 2 ≤ idle)
-      → Ahead idle (progressOf l tx rx (drop at src)) end → Feeds end src at l tx rx
-  finished {idle} {l} {tx} {rx} h i a =
-      rw (← ahead-end idle (progressOf l tx rx (drop at src)) (λ z. i (omega (arith, length-drop at src))) a)
-      (record { count = rw length-drop (omega arith); link = refl; transmit = refl; receive = refl })
+  pub fits : {m : ℕ} (d : Drops) → at ≤ length src → allOf d ≤ at → length src < m → allOf d + length (take (length src - at) (drop at src)) < m
+  fits d h k l = omega (arith, ap length (rest src at), length-drop at src)
+
+  -- no more is dropped than is taken
+  pub still-few : {n : ℕ} {l′ : PPPoS} {d′ : Drops} {tx′ rx′ : List ℕ} (l : PPPoS) (tx rx : List ℕ) (d : Drops) → allOf d ≤ at
+      → Feeds (oneTurn (progressOf l tx rx (take (length src - at) (drop at src)) d)) (take (length src - at) (drop at src)) n l′ d′ tx′ rx′
+      → allOf d′ ≤ at + n
+  still-few l tx rx d h f =
+      rw (f .drops, f .count) (omega (arith, turn-most (progressOf l tx rx (take (length src - at) (drop at src)) d)))
+
+  pub finished : {idle : ℕ} {l : PPPoS} {d : Drops} {tx rx : List ℕ} {end : Progress} → at ≤ length src → (at < length src → 2 ≤ idle)
+      → Ahead idle (progressOf l tx rx (drop at src) d) end → Feeds end src at l d tx rx
+  finished {idle} {l} {d} {tx} {rx} h i a =
+      rw (← ahead-end idle (progressOf l tx rx (drop at src) d) (λ z. i (omega (arith, length-drop at src))) a)
+      (record { count = rw length-drop (omega arith); link = refl; drops = refl; transmit = refl; receive = refl })
 
 pub fewer : (m at idle n : ℕ) → at < m → at + n ≤ m → idle < 2 → 2 * (m - (at + n)) + (2 - idleAfter idle n) < 2 * (m - at) + (2 - idle)
 fewer m at idle n h k i =

@@ -6,6 +6,8 @@ use Prim.Native.Nat.{ℕ, zero, suc, _+_, _-_, _*_}
 use lib.Dec.{eqb, leb}
 use lib.ListN.{length}
 use Rattle.framing.specs.Reader.{Fed, consumed}
+use Rattle.framing.specs.Drops.{noDrops, together, dropped}
+use Rattle.framing.specs.declared.drops.Drops.{Drops}
 use Rattle.link.specs.Link.{linkOf, newLink, openLink, heldBy, Poll, pollLink}
 use Rattle.link.specs.declared.choices.Choices.{Choices}
 use Rattle.link.specs.declared.pppos.PPPoS.{PPPoS}
@@ -14,25 +16,26 @@ use Rattle.link.specs.declared.pppos.PPPoS.{PPPoS}
 unfoldable pub started : Choices → List ℕ → List ℕ → Poll
 started c tx rx = pollLink (openLink (newLink [] [] c)) tx rx
 
--- the link, both buffers, and the bytes that are not taken yet
+-- the link, both buffers, the bytes that are not taken yet, and what was dropped so far
 pub record Progress : Type 0 where
   pub link : PPPoS
   pub tx : List ℕ
   pub rx : List ℕ
   pub left : List ℕ
+  pub drops : Drops
 
-abbrev pub progressOf : PPPoS → List ℕ → List ℕ → List ℕ → Progress
-progressOf l tx rx bs = record { link = l; tx = tx; rx = rx; left = bs }
+abbrev pub progressOf : PPPoS → List ℕ → List ℕ → List ℕ → Drops → Progress
+progressOf l tx rx bs d = record { link = l; tx = tx; rx = rx; left = bs; drops = d }
 
-abbrev polledProgress : Poll → List ℕ → Progress
-polledProgress p left = record { link = p .link; tx = p .tx; rx = p .rx; left = left }
+abbrev polledProgress : Poll → List ℕ → Drops → Progress
+polledProgress p left d = record { link = p .link; tx = p .tx; rx = p .rx; left = left; drops = d }
 
-abbrev consumedProgress : Fed → Progress → Progress
-consumedProgress f s = polledProgress (pollLink (linkOf (f .now .reader) (s .link .ppp)) (s .tx) (f .now .buf)) (f .left)
+abbrev consumedProgress : Fed → Drops → Progress → Progress
+consumedProgress f d s = polledProgress (pollLink (linkOf (f .now .reader) (s .link .ppp)) (s .tx) (f .now .buf)) (f .left) (together (s .drops) d)
 
 -- one consume, one poll
 unfoldable pub oneTurn : Progress → Progress
-oneTurn s = consumedProgress (consumed (heldBy (s .link) (s .rx)) (s .left)) s
+oneTurn s = consumedProgress (consumed (heldBy (s .link) (s .rx)) (s .left)) (dropped (heldBy (s .link) (s .rx)) (s .left)) s
 
 -- how many turns in a row took nothing, behind one that took n bytes
 abbrev pub idleAfter : ℕ → ℕ → ℕ
@@ -48,11 +51,12 @@ turns (suc k) idle s =
 
 -- every second turn takes a byte, so that many turns are enough
 unfoldable pub fedLink : PPPoS → List ℕ → List ℕ → List ℕ → Progress
-fedLink l tx rx bs = turns (2 * length bs + 2) 0 (progressOf l tx rx bs)
+fedLink l tx rx bs = turns (2 * length bs + 2) 0 (progressOf l tx rx bs noDrops)
 
--- what stands after a run of the bytes bs: the count of those taken, the link, and both buffers
-pub record Feeds (s : Progress) (bs : List ℕ) (n : ℕ) (l : PPPoS) (tx rx : List ℕ) : Type 0 where
+-- what stands after a run of the bytes bs: the count of those taken, the link, what was dropped, and both buffers
+pub record Feeds (s : Progress) (bs : List ℕ) (n : ℕ) (l : PPPoS) (d : Drops) (tx rx : List ℕ) : Type 0 where
   pub count : n ≡ length bs - length (s .left)
   pub link : l ≡ s .link
+  pub drops : d ≡ s .drops
   pub transmit : tx ≡ s .tx
   pub receive : rx ≡ s .rx

@@ -15,7 +15,7 @@ use Rattle.laws.proofs.Ends.{last-two}
 use Rattle.laws.proofs.Stores.{sets-front}
 use Rattle.framing.specs.Rfc1662.{fcs}
 use Rattle.framing.specs.Reader.{faultIn, isGood, packetOf}
-use Rattle.framing.specs.declared.frame_reader.Fault.the-variants.{None, Short, Control, Check}
+use Rattle.framing.specs.declared.drops.Fault.the-variants.{None, Short, Control, Check}
 use Rattle.framing.specs.declared.frame_reader.Reading.{Reading}
 use Rattle.framing.proofs.Fcs.{fcs-append, fcs-lt, fcs-good}
 use Rattle.framing.proofs.Only.{fcs-only}

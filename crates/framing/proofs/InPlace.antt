@@ -33,9 +33,10 @@ pub use denote.Triple.Walked.{says, Stays, stay-ref, walkOf, goes-ref, Walks, en
 use mathlib.Core.Path.{subst}
 use mathlib.Core.List.{List, [], _∷_}
 use Prim.Native.Nat.{ℕ}
+use base.Logic.{sep, assoc∗}
 use base.Stored.{Gv}
 use base.Fml.{fauth, fobor}
-use types.Kit.{Goal, Soaks, Step, step, Item, Seq}
+use types.Kit.{Goal, Soaks, Step, step, Item, Seq, prop}
 use denote.Lowered.{Lowered}
 use denote.Memory.{cellAt}
 use denote.RattleType.{RattleType}
@@ -74,3 +75,9 @@ module _ {M : Type 1} {𝓤 : URA M} {H : Heap 𝓤} {A : Atoms 𝓤} {K : Type 
       owned t T.the-row (Is T.the-row) (LL.makes T.the-type T′.the-plain 𝓤 H A) d (mach d ∷ []) is $
       move t (1 ∷ []) $ use1 W (‵ (cellAt fullShare (T.the-row .mir) (mach d ∷ []) b o)) (W .laws .at-raw fullShare T′.mir b o (mach d)) $
       closes t z T.the-row d (mach d ∷ []) b o $ s)
+
+-- two `ensures` make a goal P ∗ (⌜φ⌝ ∗ ⌜ψ⌝): both are shown, and P is left
+pub says-both : {M : Type 1} {𝓤 : URA M} {H : Heap 𝓤} {A : Atoms 𝓤} {K : Type 0} {W : Given 𝓤 H A} {Γ : List (Item 𝓤)} → K → {φ ψ : Type 0} {P : SProp 𝓤} → φ → ψ
+    → Step K W Γ (prop P) Γ (prop (sep 𝓤 P (sep 𝓤 (fact 𝓤 φ) (fact 𝓤 ψ))))
+says-both {𝓤 = 𝓤} t {φ} {ψ} {P} x y =
+    step (λ s. record { prf = via 𝓤 (sep 𝓤 (sep 𝓤 P (fact 𝓤 φ)) (fact 𝓤 ψ)) ((says t y $ says t x $ s) .prf) (assoc∗ 𝓤 P (fact 𝓤 φ) (fact 𝓤 ψ)) })

@@ -1,6 +1,7 @@
 pub mod Arrives
 pub mod Asyncmap
 pub mod Clean
+pub mod Dropping
 pub mod Fcs
 pub mod Formula
 pub mod Frame

@@ -20,7 +20,7 @@ use Rattle.framing.specs.declared.refusal.Outcome.the-variants.{Done, Re
 use Rattle.framing.specs.declared.frame_reader.State.{State}
 use Rattle.framing.specs.declared.frame_reader.State.the-variants.{Start, Address, Data, Complete}
 use Rattle.framing.specs.declared.frame_reader.FrameReader.{FrameReader}
-use Rattle.framing.specs.declared.frame_reader.Fault.the-variants.{Aborted}
+use Rattle.framing.specs.declared.drops.Fault.the-variants.{Aborted}
 use Rattle.framing.specs.declared.frame_reader.Got.{Got}
 use Rattle.framing.specs.declared.frame_reader.Reading.{Reading}
 

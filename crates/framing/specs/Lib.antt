@@ -2,6 +2,7 @@ pub mod Rfc1662
 pub mod Refusal
 pub mod Writer
 pub mod Reader
+pub mod Drops
 pub mod Clean
 pub mod Heard
 pub mod Arrives

@@ -14,8 +14,8 @@ use Rattle.framing.specs.declared.frame_reader.State.the-variants.{Start
 use Rattle.framing.specs.declared.frame_reader.Reading.{Reading}
 use Rattle.framing.specs.declared.frame_reader.Reading.the-variants.{Crate, Standard}
 use Rattle.framing.specs.declared.frame_reader.FrameReader.{FrameReader}
-use Rattle.framing.specs.declared.frame_reader.Fault.{Fault}
-use Rattle.framing.specs.declared.frame_reader.Fault.the-variants.{None, Aborted, Short, Control, Check}
+use Rattle.framing.specs.declared.drops.Fault.{Fault}
+use Rattle.framing.specs.declared.drops.Fault.the-variants.{None, Aborted, Short, Control, Check, Overrun}
 use Rattle.framing.specs.declared.frame_reader.Got.{Got}
 use Rattle.framing.specs.declared.frame_reader.Got.the-variants.{Packet, Refused, Nothing}
 
@@ -75,6 +75,7 @@ isGood Aborted = false
 isGood Short = false
 isGood Control = false
 isGood Check = false
+isGood Overrun = false
 
 -- a good frame is complete; the end of any other is the flag before the next
 abbrev pub ended : FrameReader → List ℕ → FrameReader

@@ -2,8 +2,12 @@
 ghost use mathlib.Core.Path.{_≡_};
 ghost use Prim.Native.Nat.{_≤_};
 ghost use lib.ListN.{length};
-ghost use Rattle.framing.specs.Reader.{isCrate, isComplete, freshReader, next, moved, marks, plainOf, escapeAfter, lenAfter, aborts, faultOf, isGood, ended, held, stored, inData, step, Consumes, Receives};
+ghost use Rattle.framing.specs.Reader.{isCrate, isComplete, freshReader, next, moved, marks, plainOf, escapeAfter, lenAfter, aborts, faultOf, ended, held, stored, inData, step, Consumes, Receives};
+ghost use Rattle.framing.specs.Drops.{roomFault, faultInData, faultAt, dropped};
 use crate::crc::crc16;
+use crate::drops::Drops;
+use crate::drops::Fault;
+use crate::drops::is_good;
 use crate::refusal::Outcome;
 use crate::refusal::Refusal;
 
@@ -31,19 +35,13 @@ pub struct Consumed {
     pub outcome: Outcome,
     pub count: usize,
     pub reader: FrameReader,
+    pub drops: Drops,
 }
 
-// Why a frame end gives no frame.
-pub enum Fault {
-    None,
-    // An escape right before the flag, in standard reading.
-    Aborted,
-    // Under three bytes are kept.
-    Short,
-    // The first is not 03.
-    Control,
-    // The residue is wrong.
-    Check,
+// What a byte comes to: the reader, and what it dropped.
+struct Stepped {
+    reader: FrameReader,
+    fault: Fault,
 }
 
 // The packet's range in the lent buffer, if a frame is complete.
@@ -78,15 +76,13 @@ fn is_complete(s: State) -> bool
     }
 }
 
-fn is_good(f: Fault) -> bool
-    ensures { λ r. ⌜ r ≡ isGood f ⌝ }
+// Nothing is dropped.
+fn keeps(reader: FrameReader) -> Stepped
+    ensures { λ s. ⌜ (s .reader ≡ reader) × (s .fault ≡ Fault.None) ⌝ }
 {
-    match f {
-        Fault::None => true,
-        Fault::Aborted => false,
-        Fault::Short => false,
-        Fault::Control => false,
-        Fault::Check => false,
+    Stepped {
+        reader,
+        fault: Fault::None,
     }
 }
 
@@ -115,12 +111,13 @@ impl FrameReader {
         }
     }
 
-    fn to(self, s: State) -> Self
-        ensures { λ r. ⌜ r ≡ moved self s ⌝ }
+    // Between frames.
+    fn to(self, s: State) -> Stepped
+        ensures { λ r. ⌜ (r .reader ≡ moved self s) × (r .fault ≡ Fault.None) ⌝ }
     {
         let escape = self.escape;
         let len = self.len;
-        self.next(s, escape, len)
+        keeps(self.next(s, escape, len))
     }
 
     // Whether this byte of a frame is an escape.
@@ -193,52 +190,58 @@ impl FrameReader {
         Fault::None
     }
 
-    // 7E inside a frame ends it.
-    fn end(self, buf: &[u8]) -> Self
+    // 7E inside a frame ends it; what becomes of the frame and what is counted come from one fault.
+    fn end(self, buf: &[u8]) -> Stepped
         requires { ⌜ self .len ≤ length (now buf) ⌝ }
-        ensures { λ r. ⌜ r ≡ ended self (now (buf .entry)) ⌝ }
+        ensures { λ s. ⌜ (s .reader ≡ ended self (now (buf .entry))) × (s .fault ≡ faultOf self (now (buf .entry))) ⌝ }
     {
         let escape = self.escape_after();
-        let f = self.fault(buf);
-        if is_good(f) {
+        let fault = self.fault(buf);
+        if is_good(fault) {
             let len = self.len;
-            return self.next(State::Complete, escape, len);
+            let reader = self.next(State::Complete, escape, len);
+            return Stepped { reader, fault };
         }
         let after = self.len_after();
-        self.next(State::Address, escape, after)
+        let reader = self.next(State::Address, escape, after);
+        Stepped { reader, fault }
     }
 
-    fn store(self, buf: &mut [u8], b: u8) -> Self
-        ensures { λ r. ⌜ held r (now (buf .exit)) ≡ stored (held self (now (buf .entry))) b ⌝ }
+    fn store(self, buf: &mut [u8], b: u8) -> Stepped
+        ensures { λ s. ⌜ (held (s .reader) (now (buf .exit)) ≡ stored (held self (now (buf .entry))) b) × (s .fault ≡ roomFault (held self (now (buf .entry)))) ⌝ }
     {
         let len = self.len;
         if len < buf.len() {
             buf[len] = b;
             let longer = len + 1;
-            return self.next(State::Data, false, longer);
+            return keeps(self.next(State::Data, false, longer));
         }
-        self.next(State::Start, false, 0)
+        let reader = self.next(State::Start, false, 0);
+        Stepped {
+            reader,
+            fault: Fault::Overrun,
+        }
     }
 
     // A byte inside a frame.
-    fn data(self, buf: &mut [u8], b: u8) -> Self
+    fn data(self, buf: &mut [u8], b: u8) -> Stepped
         requires { ⌜ self .len ≤ length (now buf) ⌝ }
-        ensures { λ r. ⌜ held r (now (buf .exit)) ≡ inData (held self (now (buf .entry))) b ⌝ }
+        ensures { λ s. ⌜ (held (s .reader) (now (buf .exit)) ≡ inData (held self (now (buf .entry))) b) × (s .fault ≡ faultInData (held self (now (buf .entry))) b) ⌝ }
     {
         if b == 0x7E {
             return self.end(buf);
         }
         if self.marks(b) {
             let len = self.len;
-            return self.next(State::Data, true, len);
+            return keeps(self.next(State::Data, true, len));
         }
         let plain = self.plain(b);
         self.store(buf, plain)
     }
 
-    fn step(self, buf: &mut [u8], b: u8) -> Self
+    fn step(self, buf: &mut [u8], b: u8) -> Stepped
         requires { ⌜ self .len ≤ length (now buf) ⌝ }
-        ensures { λ r. ⌜ held r (now (buf .exit)) ≡ step (held self (now (buf .entry))) b ⌝ }
+        ensures { λ s. ⌜ (held (s .reader) (now (buf .exit)) ≡ step (held self (now (buf .entry))) b) × (s .fault ≡ faultAt (held self (now (buf .entry))) b) ⌝ }
     {
         let state = self.state;
         match state {
@@ -260,20 +263,23 @@ impl FrameReader {
                 }
             }
             State::Data => self.data(buf, b),
-            State::Complete => self,
+            State::Complete => keeps(self),
         }
     }
 
-    // Feeds bytes, up to the end of a good frame: what is not counted is to be handed in again, after `receive`.
+    // Feeds bytes, up to the end of a good frame: what stands behind `count` is to be handed in again, after `receive`.
     pub fn consume(self, buf: &mut [u8], src: &[u8]) -> Consumed
         ensures { λ r. ⌜ Consumes (held self (now (buf .entry))) (now (src .entry)) (r .outcome) (r .count) (r .reader) (now (buf .exit)) ⌝ }
+        ensures { λ r. ⌜ r .drops ≡ dropped (held self (now (buf .entry))) (now (src .entry)) ⌝ }
     {
         let len = self.len;
+        let mut drops = Drops::none();
         if buf.len() < len {
             return Consumed {
                 outcome: Outcome::Refused(Refusal::BufferShort),
                 count: 0,
                 reader: self,
+                drops,
             };
         }
         let mut r = self;
@@ -285,16 +291,22 @@ impl FrameReader {
                     outcome: Outcome::Done,
                     count: i,
                     reader: r,
+                    drops,
                 };
             }
             let b = src[i];
-            r = r.step(buf, b);
+            let s = r.step(buf, b);
+            let next = s.reader;
+            r = next;
+            let f = s.fault;
+            drops = drops.noted(f);
             i += 1;
         }
         Consumed {
             outcome: Outcome::Done,
             count: i,
             reader: r,
+            drops,
         }
     }
 

@@ -3,15 +3,17 @@ ghost use mathlib.Core.Path.{_≡_};
 ghost use mathlib.Core.List.{_++_};
 ghost use Prim.Native.Nat.{_-_, _≤_, _<_};
 ghost use lib.ListN.{length, take, drop};
+ghost use Rattle.framing.specs.Drops.{dropped};
 ghost use Rattle.phases.specs.Phases.{statusOf};
 ghost use Rattle.link.specs.Choices.{choicesOf};
-ghost use Rattle.link.specs.Link.{linkOf, outcomeOf, framingOutcome, Makes, Opens, Consumes, echoedIn, asPoll, isIp, packetPoll, pollLink, Polls, Sends, HandsOut, written, answeredPoll, asTurn};
+ghost use Rattle.link.specs.Link.{linkOf, heldBy, outcomeOf, framingOutcome, Makes, Opens, Consumes, echoedIn, asPoll, isIp, packetPoll, pollLink, Polls, Sends, HandsOut, written, answeredPoll, asTurn};
 use crate::choices::Choices;
 ghost use Rattle.negotiation.specs.Replies.{Short};
 use crate::frames::fits;
 use crate::frames::put_replies;
 use crate::refusal::Outcome;
 use crate::refusal::Refusal;
+use framing::drops::Drops;
 use framing::encode::encode_parts;
 use framing::frame_reader::FrameReader;
 use framing::frame_reader::Got;
@@ -43,6 +45,7 @@ pub struct Consumed {
     pub outcome: Outcome,
     pub count: usize,
     pub link: PPPoS,
+    pub drops: Drops,
 }
 
 pub struct Polled {
@@ -151,19 +154,22 @@ impl PPPoS {
         p.status()
     }
 
-    // Takes received bytes, up to the end of a good frame: what is not counted is to be handed in again, after `poll`.
+    // Takes received bytes, up to the end of a good frame: what stands behind `count` is to be handed in again, after `poll`.
     pub fn consume(self, src: &[u8], rx: &mut [u8]) -> Consumed
         ensures { λ r. ⌜ Consumes self (now (rx .entry)) (now (src .entry)) (r .outcome) (r .count) (r .link) (now (rx .exit)) ⌝ }
+        ensures { λ r. ⌜ r .drops ≡ dropped (heldBy self (now (rx .entry))) (now (src .entry)) ⌝ }
     {
         let r = self.frame_reader;
         let c = r.consume(rx, src);
         let o = c.outcome;
         let frame_reader = c.reader;
         let ppp = self.ppp;
+        let drops = c.drops;
         Consumed {
             outcome: framing_outcome(o),
             count: c.count,
             link: PPPoS { frame_reader, ppp },
+            drops,
         }
     }
 

@@ -18,7 +18,7 @@ use Rattle.framing.specs.declared.frame_reader.State as reading
 use Rattle.framing.specs.declared.frame_reader.Reading.{Reading}
 use Rattle.framing.specs.declared.frame_reader.Reading.the-variants.{Crate}
 use Rattle.framing.specs.declared.frame_reader.FrameReader as reader
-use Rattle.framing.specs.declared.frame_reader.Fault.the-variants.{None, Short, Control, Check}
+use Rattle.framing.specs.declared.drops.Fault.the-variants.{None, Short, Control, Check}
 use Rattle.framing.specs.declared.frame_reader.Got.{Got}
 use Rattle.framing.specs.declared.frame_reader.Got.the-variants.{Packet, Nothing}
 use Rattle.framing.specs.declared.refusal.Outcome.{Outcome}

@@ -22,6 +22,8 @@ use Rattle.framing.specs.Refusal as framing
 use Rattle.framing.specs.declared.refusal.Outcome as framed
 use Rattle.options.specs.Refusal as negotiated
 use Rattle.link.specs.Refusal.{outcomeNumber}
+use Rattle.framing.specs.Drops.{dropped}
+use Rattle.framing.specs.declared.drops.Drops.{Drops}
 use Rattle.link.specs.Link.{linkOf, heldBy, Consumes, ipFrame, remoteMap, Sends}
 use Rattle.status_lines.specs.Lines.{linesOf, Shows}
 use Rattle.refusals.specs.Framing.{consumeRows}
@@ -60,10 +62,10 @@ open-first p l number same =
 
 -- ---- consume
 
-pub consume-first : (l : PPPoS) (rx bs : List ℕ) {o : Outcome} {n : ℕ} {l′ : PPPoS} {rx′ : List ℕ} → Consumes l rx bs o n l′ rx′
-    → First (outcomeNumber o) (record { count = n; kept = l′; rx = rx′ }) (consumeRows (l .«frame_reader» .len) l rx)
-consume-first l rx bs c =
-    consume-right (heldBy l rx) bs l (c .number) (c .count) (λ e. c .link ∙ ap (λ (r : FrameReader). linkOf r (l .ppp)) e) (c .bytes)
+pub consume-first : (l : PPPoS) (rx bs : List ℕ) {o : Outcome} {n : ℕ} {d : Drops} {l′ : PPPoS} {rx′ : List ℕ} → Consumes l rx bs o n l′ rx′ → d ≡ dropped (heldBy l rx) bs
+    → First (outcomeNumber o) (record { count = n; drops = d; kept = l′; rx = rx′ }) (consumeRows (l .«frame_reader» .len) l rx)
+consume-first l rx bs c d =
+    consume-right (heldBy l rx) bs l (c .number) (c .count) d (λ e. c .link ∙ ap (λ (r : FrameReader). linkOf r (l .ppp)) e) (c .bytes)
 
 -- ---- send
 

@@ -17,6 +17,9 @@ use Rattle.framing.specs.Rfc1662.{frame}
 use Rattle.framing.specs.Refusal.{outcomeNumber}
 use Rattle.framing.specs.Writer.{write, Ran, fit, over, lent, holds, Writes, Lays}
 use Rattle.framing.specs.Reader.{Held, isShort, isComplete, consumed, gotNumber, Receives}
+use Rattle.framing.specs.Drops.{dropped}
+use Rattle.framing.specs.declared.drops.Drops.{Drops}
+use Rattle.framing.proofs.Dropping.{dropped-short}
 use Rattle.framing.specs.declared.refusal.Outcome.{Outcome}
 use Rattle.framing.specs.declared.frame_writer.FrameWriter.{FrameWriter}
 use Rattle.framing.specs.declared.frame_reader.FrameReader.{FrameReader}
@@ -130,14 +133,14 @@ answer-number m p buf c =
 
 -- ---- the reader
 
-pub consume-right : {A : Type 0} (s : Held) (bs : List ℕ) (a : A) {k n : ℕ} {a′ : A} {rx : List ℕ} → k ≡ cond (isShort s) 3 0
-    → n ≡ length bs - length (consumed s bs .left) → (consumed s bs .now .reader ≡ s .reader → a′ ≡ a) → rx ≡ consumed s bs .now .buf
-    → First k (record { count = n; kept = a′; rx = rx }) (consumeRows (s .reader .len) a (s .buf))
-consume-right s bs a number count same bytes =
+pub consume-right : {A : Type 0} (s : Held) (bs : List ℕ) (a : A) {k n : ℕ} {d : Drops} {a′ : A} {rx : List ℕ} → k ≡ cond (isShort s) 3 0
+    → n ≡ length bs - length (consumed s bs .left) → d ≡ dropped s bs → (consumed s bs .now .reader ≡ s .reader → a′ ≡ a) → rx ≡ consumed s bs .now .buf
+    → First k (record { count = n; drops = d; kept = a′; rx = rx }) (consumeRows (s .reader .len) a (s .buf))
+consume-right s bs a number count drops same bytes =
     by-test (isShort s)
     (λ e. let h = ltb-true (length (s .buf)) (s .reader .len) e in
     let c = consumed-short s bs h in
-    inl (number ∙ rw e refl, h, (count ∙ rw (c, sub-self) refl, same (rw c refl), bytes ∙ rw c refl)))
+    inl (number ∙ rw e refl, h, (count ∙ rw (c, sub-self) refl, drops ∙ dropped-short s bs h, same (rw c refl), bytes ∙ rw c refl)))
     (λ e. inr ((λ h. omega (arith, ltb-false (length (s .buf)) (s .reader .len) e)), number ∙ rw e refl))
 
 pub complete-is : (s : State) → isComplete s ≡ true → s ≡ Complete

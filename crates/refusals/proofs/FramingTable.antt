@@ -8,6 +8,8 @@ use Rattle.framing.specs.Rfc1662.{fcs}
 use Rattle.framing.specs.Refusal.{outcomeNumber}
 use Rattle.framing.specs.Writer.{units, startUnits, Starts, Appends, Finishes, Lays, Encodes}
 use Rattle.framing.specs.Reader.{held, Consumes, gotNumber, Receives}
+use Rattle.framing.specs.Drops.{dropped}
+use Rattle.framing.specs.declared.drops.Drops.{Drops}
 use Rattle.framing.specs.declared.refusal.Outcome.{Outcome}
 use Rattle.framing.specs.declared.frame_writer.FrameWriter.{FrameWriter}
 use Rattle.framing.specs.declared.frame_reader.FrameReader.{FrameReader}
@@ -42,8 +44,8 @@ pub record FramingHolds : Type 0 where
       → Holds (encodeRows m p buf) (wholeFrame m p buf) (outcomeNumber o) (record { count = n; bytes = buf′ })
   pub «ppp_encode» : (m : ℕ) (p buf : List ℕ) {n : ℕ} {buf′ : List ℕ} → Lays m p buf n buf′
       → Holds (encodeRows m p buf) (wholeFrame m p buf) (answerNumber n) (record { count = n; bytes = buf′ })
-  pub consume : (r : FrameReader) (rx bs : List ℕ) {o : Outcome} {n : ℕ} {r′ : FrameReader} {rx′ : List ℕ} → Consumes (held r rx) bs o n r′ rx′
-      → Exactly ⊥ (consumeRows (r .len) r rx) (outcomeNumber o) (record { count = n; kept = r′; rx = rx′ })
+  pub consume : (r : FrameReader) (rx bs : List ℕ) {o : Outcome} {n : ℕ} {d : Drops} {r′ : FrameReader} {rx′ : List ℕ} → Consumes (held r rx) bs o n r′ rx′ → d ≡ dropped (held r rx) bs
+      → Exactly ⊥ (consumeRows (r .len) r rx) (outcomeNumber o) (record { count = n; drops = d; kept = r′; rx = rx′ })
   pub receive : (r : FrameReader) {g : Got} {r′ : FrameReader} → Receives r g r′
       → Exactly ⊥ (receiveRows r) (gotNumber g) r′
 
@@ -58,6 +60,6 @@ exactly-framing =
       finish = λ w buf c. holds-of (writes-right _ (w .crc) (w .crc) w buf (rw units-map at c)) refl;
       encode = λ m p buf c. holds-of (lays-right m p buf (c .number) (c .lays)) refl;
       «ppp_encode» = λ m p buf c. holds-of (lays-right m p buf (answer-number m p buf c) c) refl;
-      consume = λ r rx bs c. first-exactly _ _ (consumeRows (r .len) r rx) (consume-right (held r rx) bs r (c .number) (c .count) (λ e. c .reader ∙ e) (c .bytes)) refl;
+      consume = λ r rx bs c d. first-exactly _ _ (consumeRows (r .len) r rx) (consume-right (held r rx) bs r (c .number) (c .count) d (λ e. c .reader ∙ e) (c .bytes)) refl;
       receive = λ r c. first-exactly _ _ (receiveRows r) (receive-right r c) refl;
     }

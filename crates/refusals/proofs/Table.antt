@@ -5,11 +5,13 @@ use mathlib.Core.List.{List, _++_}
 use Prim.Native.Nat.{ℕ}
 use lib.ListN.{length, drop}
 use Rattle.framing.specs.Reader.{freshReader}
+use Rattle.framing.specs.Drops.{dropped}
+use Rattle.framing.specs.declared.drops.Drops.{Drops}
 use Rattle.phases.specs.declared.ppp.Status.{Status}
 use Rattle.framing.specs.Refusal as framing
 use Rattle.framing.specs.declared.refusal.Outcome as framed
 use Rattle.link.specs.Refusal.{outcomeNumber}
-use Rattle.link.specs.Link.{linkOf, Makes, Opens, Consumes, pollLink, Polls, actionNumber, actionValues, Sends, transmitted}
+use Rattle.link.specs.Link.{linkOf, heldBy, Makes, Opens, Consumes, pollLink, Polls, actionNumber, actionValues, Sends, transmitted}
 use Rattle.status_lines.specs.Lines.{linesOf, Shows}
 use Rattle.refusals.specs.Rows.{Exactly}
 use Rattle.refusals.specs.Framing.{consumeRows}
@@ -36,8 +38,8 @@ pub record TableHolds : Type 0 where
       → Exactly ⊥ (newRows name password (emptyLink c)) (outcomeNumber o) l
   pub «open» : (l : PPPoS) {o : Outcome} {l′ : PPPoS} → Opens l o l′
       → Exactly ⊥ (openRows (l .ppp .phase) l) (outcomeNumber o) l′
-  pub consume : (l : PPPoS) (rx bs : List ℕ) {o : Outcome} {n : ℕ} {l′ : PPPoS} {rx′ : List ℕ} → Consumes l rx bs o n l′ rx′
-      → Exactly ⊥ (consumeRows (l .«frame_reader» .len) l rx) (outcomeNumber o) (record { count = n; kept = l′; rx = rx′ })
+  pub consume : (l : PPPoS) (rx bs : List ℕ) {o : Outcome} {n : ℕ} {d : Drops} {l′ : PPPoS} {rx′ : List ℕ} → Consumes l rx bs o n l′ rx′ → d ≡ dropped (heldBy l rx) bs
+      → Exactly ⊥ (consumeRows (l .«frame_reader» .len) l rx) (outcomeNumber o) (record { count = n; drops = d; kept = l′; rx = rx′ })
   pub poll : (l : PPPoS) (rx : List ℕ) → PollHolds l rx
   -- `send`, and `send_parts` with the join of its parts
   pub send : (l : PPPoS) (pkt tx : List ℕ) {o : Outcome} {n : ℕ} {tx′ : List ℕ} → Sends l pkt tx o n tx′
@@ -58,7 +60,7 @@ exactly =
     record {
       new = λ name password c m. first-exactly _ _ (newRows name password (emptyLink c)) (new-first name password (emptyLink c) (m .number) (λ e. m .link ∙ ap (linkOf (freshReader (c .reading))) e)) refl;
       «open» = λ l c. first-exactly _ _ (openRows (l .ppp .phase) l) (open-first (l .ppp) l (c .number) (λ e. c .link ∙ ap (linkOf (l .«frame_reader»)) e)) refl;
-      consume = λ l rx bs c. first-exactly _ _ (consumeRows (l .«frame_reader» .len) l rx) (consume-first l rx bs c) refl;
+      consume = λ l rx bs c d. first-exactly _ _ (consumeRows (l .«frame_reader» .len) l rx) (consume-first l rx bs c d) refl;
       poll = poll-holds;
       send = λ l pkt tx c. first-exactly _ _ (sendRows l pkt tx) (send-first l pkt tx c) refl;
       lines = λ s buf c. first-exactly _ _ (linesRows (linesOf s) buf) (lines-first s buf c) refl;

@@ -7,6 +7,7 @@ use Prim.Native.Nat.{ℕ, _+_, _≤_, _<_}
 use lib.Dec.{eqb}
 use lib.ListN.{length, take, drop}
 use Rattle.framing.specs.Rfc1662.{fcs, checkBytes, fields, unit, frame}
+use Rattle.framing.specs.declared.drops.Drops.{Drops}
 use Rattle.framing.specs.declared.frame_reader.FrameReader.{FrameReader}
 use Rattle.framing.specs.declared.frame_reader.State.the-variants.{Address, Complete}
 use Rattle.framing.specs.declared.frame_writer.FrameWriter.{FrameWriter}
@@ -95,15 +96,20 @@ answerNumber n = cond (eqb n 0) 1 0
 
 -- ---- the reader, by value and in place (`feed`, `fetch`: the same contracts)
 
--- what a consume leaves, of a reader or of a link: its count, the reader or link, and the receive buffer
+-- what a consume leaves, of a reader or of a link: its count, what it reports as dropped, the reader or link, and the receive buffer
 pub record Took (A : Type 0) : Type 0 where
   pub count : ℕ
+  pub drops : Drops
   pub kept : A
   pub rx : List ℕ
 
+-- document 02, 5/12: a call that gives refusal 3 reports zeros
+abbrev pub zeros : Drops
+zeros = record { aborted = 0; short = 0; control = 0; check = 0; overrun = 0 }
+
 -- 3: lent buffer under the kept length, len | unchanged, count 0
 abbrev pub consumeRows : {A : Type 0} → ℕ → A → List ℕ → List (Row (Took A))
-consumeRows len a rx = row 3 (length rx < len) (λ t. (t .count ≡ 0) × (t .kept ≡ a) × (t .rx ≡ rx)) ∷ []
+consumeRows len a rx = row 3 (length rx < len) (λ t. (t .count ≡ 0) × (t .drops ≡ zeros) × (t .kept ≡ a) × (t .rx ≡ rx)) ∷ []
 
 -- the reader moves on as if fetched: state Address, nothing kept
 abbrev pub movedOn : FrameReader → FrameReader

@@ -73,7 +73,7 @@ fn plain(w: World, line: &[u8], tx: &mut [u8], rx: &mut [u8], out: &mut [u8]) ->
             let half = lent(tx, 4096);
             writer::run(w, line, &mut tx[half..], out)
         }
-        call::RNEW..=call::RRECEIVE => {
+        call::RNEW..=call::RDROPS => {
             let half = lent(rx, 4096);
             reader::run(w, line, &mut rx[half..], out)
         }

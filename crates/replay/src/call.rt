@@ -52,34 +52,38 @@ pub(crate) const RCONSUME: usize = 8;
 
 pub(crate) const RRECEIVE: usize = 9;
 
-pub(crate) const NEW: usize = 10;
+pub(crate) const RDROPS: usize = 10;
 
-pub(crate) const OPEN: usize = 11;
+pub(crate) const NEW: usize = 11;
 
-pub(crate) const CONSUME: usize = 12;
+pub(crate) const OPEN: usize = 12;
 
-pub(crate) const POLL: usize = 13;
+pub(crate) const CONSUME: usize = 13;
 
-pub(crate) const SEND: usize = 14;
+pub(crate) const POLL: usize = 14;
 
-pub(crate) const PART: usize = 15;
+pub(crate) const SEND: usize = 15;
 
-pub(crate) const STATUS: usize = 16;
+pub(crate) const PART: usize = 16;
 
-pub(crate) const DUMP: usize = 17;
+pub(crate) const STATUS: usize = 17;
 
-pub(crate) const OBNEW: usize = 18;
+pub(crate) const DUMP: usize = 18;
 
-pub(crate) const OBACCEPT: usize = 19;
+pub(crate) const DROPS: usize = 19;
 
-pub(crate) const OBSEND: usize = 20;
+pub(crate) const OBNEW: usize = 20;
 
-pub(crate) const OBBUF: usize = 21;
+pub(crate) const OBACCEPT: usize = 21;
+
+pub(crate) const OBSEND: usize = 22;
+
+pub(crate) const OBBUF: usize = 23;
 
 // An empty line or a comment is no call, and any number above is a bad line.
-pub(crate) const QUIET: usize = 22;
+pub(crate) const QUIET: usize = 24;
 
-pub(crate) const BAD: usize = 23;
+pub(crate) const BAD: usize = 25;
 
 fn named(name: &[u8]) -> usize {
     if name.len() > 0 {
@@ -88,7 +92,7 @@ fn named(name: &[u8]) -> usize {
         }
     }
     which(
-        b"reset fill crc wnew wstart wappend wfinish rnew rconsume rreceive new open consume poll send part status dump obnew obaccept obsend obbuf",
+        b"reset fill crc wnew wstart wappend wfinish rnew rconsume rreceive rdrops new open consume poll send part status dump drops obnew obaccept obsend obbuf",
         name,
     )
 }
@@ -97,7 +101,7 @@ fn named(name: &[u8]) -> usize {
 // 2 two hex digits, 4 and 8 up to so many, b bytes, s a reading, * any word, as in a comment and a line that is bad already.
 fn kind(call: usize, place: usize) -> u8 {
     let kinds =
-        b"----w2--4b--n8------b-------ns--b-------bbs-----nb--nn--nb--nnn---------o---ob--on--o---****";
+        b"----w2--4b--n8------b-------ns--b-----------bbs-----nb--nn--nb--nnn-------------o---ob--on--o---****";
     if call <= QUIET {
         if place < 4 {
             return kinds[call * 4 + place];

@@ -12,19 +12,18 @@ mod world;
 mod writer;
 
 use crate::answer::heard;
-use crate::pppos::fresh;
+use crate::pppos::Uplink;
 use crate::pppos::linked;
 use crate::waiting::empty;
 use crate::waiting::run;
 use crate::world::World;
 use crate::world::started;
-use link::pppos::PPPoS;
 use outbox::outbox::Outbox;
 
 // The link and the outbox above it. A link's type is long, and a proof lists it at each step: it stands beside the rest, and goes
 // to the calls that need it only.
 struct Stack {
-    link: PPPoS,
+    uplink: Uplink,
     outbox: Outbox,
 }
 
@@ -38,7 +37,7 @@ fn opened() -> Session {
     Session {
         world: started(),
         stack: Stack {
-            link: fresh(),
+            uplink: crate::pppos::started(),
             outbox: empty(),
         },
         over: false,
@@ -55,11 +54,12 @@ fn answered(
     out: &mut [u8],
 ) -> Stack {
     let c = w.call;
-    let link = s.link;
+    let uplink = s.uplink;
+    let link = uplink.link;
     let outbox = s.outbox;
     let outbox = run(outbox, link, c, line, tx, rx, out);
-    let link = linked(link, c, line, tx, rx, out);
-    Stack { link, outbox }
+    let uplink = linked(uplink, c, line, tx, rx, out);
+    Stack { uplink, outbox }
 }
 
 // Waits for bytes, and answers the line that they end.

@@ -2,6 +2,7 @@
 use crate::call;
 use crate::call::Call;
 use crate::dump::dump;
+use crate::reader::dropped;
 use crate::reader::reading;
 use crate::show::buffer;
 use crate::show::bytes;
@@ -13,6 +14,7 @@ use crate::word::NONE;
 use crate::world::front;
 use crate::world::given;
 use crate::world::lent;
+use framing::drops::Drops;
 use framing::frame_reader::Reading;
 use link::choices::Choices;
 use link::pppos::PPPoS;
@@ -22,6 +24,12 @@ use link::refusal::Outcome;
 use link::refusal::Refusal;
 use status_lines::status::MAX_LINES;
 use status_lines::status::lines;
+
+// The link, and what its last consume dropped.
+pub(crate) struct Uplink {
+    pub(crate) link: PPPoS,
+    pub(crate) drops: Drops,
+}
 
 fn number(r: Refusal) -> usize {
     link::refusal::number(r) as usize
@@ -45,9 +53,16 @@ fn refusal(o: Outcome) -> usize {
     }
 }
 
-pub(crate) fn fresh() -> PPPoS {
+fn fresh() -> PPPoS {
     let c = PPPoS::new(b"", b"", Choices::plain(Reading::Crate));
     c.link
+}
+
+pub(crate) fn started() -> Uplink {
+    Uplink {
+        link: fresh(),
+        drops: Drops::none(),
+    }
 }
 
 fn verdict(o: Outcome, at: usize, out: &mut [u8]) {
@@ -77,12 +92,14 @@ fn consumed(o: Outcome, count: usize, c: Call, rx: &[u8], out: &mut [u8]) {
     ended(out, at);
 }
 
-fn consume(link: PPPoS, c: Call, line: &[u8], rx: &mut [u8], out: &mut [u8]) -> PPPoS {
+fn consume(link: PPPoS, c: Call, line: &[u8], rx: &mut [u8], out: &mut [u8]) -> Uplink {
     let n = lent(rx, c.a);
     let r = link.consume(given(line, c.b_at, c.b), &mut rx[0..n]);
     let o = r.outcome;
     consumed(o, r.count, c, &rx[0..n], out);
-    r.link
+    let link = r.link;
+    let drops = r.drops;
+    Uplink { link, drops }
 }
 
 // Its name in `show::name`, and up to two numbers.
@@ -210,32 +227,51 @@ fn told_of(link: PPPoS, c: Call, line: &[u8], tx: &mut [u8], rx: &[u8], out: &mu
     ended(out, at);
 }
 
-fn anew(link: PPPoS, c: Call, line: &[u8], out: &mut [u8]) -> PPPoS {
-    let k = c.number;
-    match k {
-        call::RESET => fresh(),
-        call::NEW => made(c, line, out),
-        _ => opened(link, c.at, out),
+fn anew(c: Call, line: &[u8], out: &mut [u8]) -> PPPoS {
+    if c.number == call::RESET {
+        return fresh();
     }
+    made(c, line, out)
 }
 
-pub(crate) fn linked(
-    link: PPPoS,
-    c: Call,
-    line: &[u8],
-    tx: &mut [u8],
-    rx: &mut [u8],
-    out: &mut [u8],
-) -> PPPoS {
+// The calls that keep what the last consume dropped.
+fn kept(link: PPPoS, c: Call, line: &[u8], tx: &mut [u8], rx: &mut [u8], out: &mut [u8]) -> PPPoS {
     let k = c.number;
     match k {
-        call::RESET | call::NEW | call::OPEN => anew(link, c, line, out),
-        call::CONSUME => consume(link, c, line, rx, out),
+        call::OPEN => opened(link, c.at, out),
         call::POLL => poll(link, c, tx, rx, out),
         call::SEND..=call::DUMP => {
             told_of(link, c, line, tx, rx, out);
             link
         }
         _ => link,
+    }
+}
+
+pub(crate) fn linked(
+    l: Uplink,
+    c: Call,
+    line: &[u8],
+    tx: &mut [u8],
+    rx: &mut [u8],
+    out: &mut [u8],
+) -> Uplink {
+    let link = l.link;
+    let drops = l.drops;
+    let k = c.number;
+    match k {
+        call::RESET | call::NEW => Uplink {
+            link: anew(c, line, out),
+            drops: Drops::none(),
+        },
+        call::CONSUME => consume(link, c, line, rx, out),
+        call::DROPS => {
+            dropped(drops, c.at, out);
+            l
+        }
+        _ => Uplink {
+            link: kept(link, c, line, tx, rx, out),
+            drops,
+        },
     }
 }

@@ -10,6 +10,7 @@ use crate::world::fill;
 use crate::world::given;
 use crate::world::lent;
 use crate::writer::refusal;
+use framing::drops::Drops;
 use framing::frame_reader::Consumed;
 use framing::frame_reader::FrameReader;
 use framing::frame_reader::Got;
@@ -52,9 +53,22 @@ fn consume(mut w: World, src: &[u8], buf: &mut [u8], out: &mut [u8]) -> World {
     let c = w.call;
     let reader = w.reader;
     let r = reader.consume(buf, src);
+    let d = r.drops;
     let reader = consumed(r, c.at, buf, w.rx_fill, out);
     w.reader = reader;
+    w.drops = d;
     w
+}
+
+// The counts of a consume.
+pub(crate) fn dropped(d: Drops, at: usize, out: &mut [u8]) {
+    let at = say(
+        out,
+        at,
+        b"# # # # #",
+        &[d.aborted, d.short, d.control, d.check, d.overrun],
+    );
+    ended(out, at);
 }
 
 fn got(out: &mut [u8], at: usize, g: Got) -> usize {
@@ -98,6 +112,7 @@ fn made(mut w: World, buf: &mut [u8], out: &mut [u8]) -> World {
     ok(out, c.at);
     w.reader = reader;
     w.reader_room = c.a;
+    w.drops = Drops::none();
     w
 }
 
@@ -110,6 +125,11 @@ pub(crate) fn run(w: World, line: &[u8], buf: &mut [u8], out: &mut [u8]) -> Worl
             let n = lent(buf, w.reader_room);
             consume(w, given(line, c.a_at, c.a), &mut buf[0..n], out)
         }
-        _ => receive(w, out),
+        call::RRECEIVE => receive(w, out),
+        _ => {
+            let d = w.drops;
+            dropped(d, c.at, out);
+            w
+        }
     }
 }

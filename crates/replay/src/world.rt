@@ -6,6 +6,7 @@ use crate::call::QUIET;
 use crate::call::none;
 use crate::line::Input;
 use crate::line::arrived_at;
+use framing::drops::Drops;
 use framing::frame_reader::FrameReader;
 use framing::frame_reader::Reading;
 use framing::frame_writer::FrameWriter;
@@ -21,6 +22,8 @@ pub(crate) struct World {
     pub(crate) writer: FrameWriter,
     pub(crate) reader_room: usize,
     pub(crate) reader: FrameReader,
+    // What the reader's last consume dropped.
+    pub(crate) drops: Drops,
 }
 
 // As at the start, but for the input.
@@ -35,6 +38,7 @@ pub(crate) fn fresh(input: Input, call: Call) -> World {
         writer: FrameWriter::new(),
         reader_room: 0,
         reader: FrameReader::new(Reading::Crate),
+        drops: Drops::none(),
     }
 }
 

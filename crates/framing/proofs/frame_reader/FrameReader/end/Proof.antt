@@ -17,7 +17,8 @@ next-requires c κs = search needs
 returns : tie.Need-returns
 returns c =
     let at = c .before .before in
-    rw (← at .before .fault .ensures, ← at .is-good .ensures, c .before .if1 .taken, c .next .ensures, at .before .before .escape-after .ensures)
+    let f = at .before .fault .ensures in
+    (rw (← f, ← at .is-good .ensures, c .before .if1 .taken, c .next .ensures, at .before .before .escape-after .ensures), f)
 
 len-after-requires : tie.Need-len-after-requires
 len-after-requires c κs = search needs
@@ -28,7 +29,8 @@ next-requires-2 c κs = search needs
 returns-2 : tie.Need-returns-2
 returns-2 c =
     let at = c .before .before .before in
-    rw (← at .before .fault .ensures, ← at .is-good .ensures, c .before .before .if1 .left, c .next2 .ensures, at .before .before .escape-after .ensures, c .before .len-after .ensures)
+    let f = at .before .fault .ensures in
+    (rw (← f, ← at .is-good .ensures, c .before .before .if1 .left, c .next2 .ensures, at .before .before .escape-after .ensures, c .before .len-after .ensures), f)
 
 pub end-spec : {M : Type 1} → statement M
 end-spec =

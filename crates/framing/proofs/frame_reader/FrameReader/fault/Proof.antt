@@ -10,7 +10,7 @@ use lib.ListN.{length, take, getD}
 use lib.Seq.{length-take-le, getD-take}
 use Rattle.framing.specs.Rfc1662.{fcs}
 use Rattle.framing.specs.Reader.{faultIn}
-use Rattle.framing.specs.declared.frame_reader.Fault.the-variants.{None, Control, Check}
+use Rattle.framing.specs.declared.drops.Fault.the-variants.{None, Control, Check}
 use Rattle.framing.proofs.frame_reader.FrameReader.fault.Statement.{statement}
 use Rattle.framing.proofs.frame_reader.FrameReader.fault.Tie as tie
 

@@ -13,7 +13,9 @@ same-length : tie.Need-same-length
 same-length c = search needs
 
 returns : tie.Need-returns
-returns c = consumes-passed (c .before .before .before .before .before .consume .ensures) (c .framing-outcome .ensures)
+returns c =
+    let e = c .before .before .before .before .before .before .consume .ensures in
+    (consumes-passed (e .0) (c .framing-outcome .ensures), e .1)
 
 pub consume-spec : {M : Type 1} → statement M
 consume-spec = tie.close (tie.spec consume-requires framing-outcome-requires same-length returns)

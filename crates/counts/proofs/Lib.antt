@@ -1,0 +1,4 @@
+pub mod Claim
+pub mod Ends
+pub mod Flags
+pub mod Told
