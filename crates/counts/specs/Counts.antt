@@ -9,7 +9,7 @@ use Rattle.laws.specs.Each.{Each, Without}
 use Rattle.framing.specs.Rfc1662.{fcs, unescaped, aborted, frame}
 use Rattle.framing.specs.Reader.{isCrate, freshReader, next, Held, held, step, full, consumed}
 use Rattle.framing.specs.Heard.{fetchedIn, heard}
-use Rattle.framing.specs.Drops.{noDrops, oneDrop, together, endsOf, dropped, missed}
+use Rattle.framing.specs.Drops.{noDrops, oneDrop, endsOf, dropped, missed}
 use Rattle.framing.specs.Paper.{doubled}
 use Rattle.framing.specs.declared.drops.Drops.{Drops}
 use Rattle.framing.specs.declared.drops.Fault.{Fault}
@@ -107,14 +107,22 @@ framesOf ps = flatten (map (λ (p : ℕ × List ℕ). frame (p .0) (p .1)) ps)
 abbrev pub AllFit : ℕ → List (ℕ × List ℕ) → Type 0
 AllFit room = Each (λ p. length (p .1) + 3 ≤ room)
 
+-- each of the five is the sum of two
+pub record Adds (c d sum : Drops) : Type 0 where
+  pub aborted : sum .aborted ≡ c .aborted + d .aborted
+  pub short : sum .short ≡ c .short + d .short
+  pub control : sum .control ≡ c .control + d .control
+  pub check : sum .check ≡ c .check + d .check
+  pub overrun : sum .overrun ≡ c .overrun + d .overrun
+
 -- what document 02 says of the counts, and what a service desk reads off them
 pub record Counting : Type 0 where
   -- a call with one byte, whatever the reader holds
   pub told : (s : Held) (b : ℕ) → s .reader .len ≤ length (s .buf) → Told s b (dropped s (b ∷ []))
   -- cuts do not matter: to calls, and to calls with a fetch behind each
-  pub cut : (s : Held) (a b : List ℕ) → dropped s (a ++ b) ≡ together (dropped s a) (dropped (consumed s a .now) (consumed s a .left ++ b))
+  pub cut : (s : Held) (a b : List ℕ) → Adds (dropped s a) (dropped (consumed s a .now) (consumed s a .left ++ b)) (dropped s (a ++ b))
   pub fetched : (s : Held) (a b : List ℕ) → s .reader .len ≤ length (s .buf) → full s ≡ false
-      → missed s (a ++ b) ≡ together (dropped s a) (missed (fetchedIn (consumed s a .now)) (consumed s a .left ++ b))
+      → Adds (dropped s a) (missed (fetchedIn (consumed s a .now)) (consumed s a .left ++ b)) (missed s (a ++ b))
   -- what stands between two flags is counted as the paper judges it
   pub flags : (k : Reading) (buf w : List ℕ) → Without 0x7E w → Usual k w → missed (flagMet k buf) ((0xFF ∷ w) ++ (0x7E ∷ [])) ≡ oneDrop (between (length buf) w)
   -- every frame end is handed out or counted in one of the first four
