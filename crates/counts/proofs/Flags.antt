@@ -26,7 +26,7 @@ use Rattle.framing.specs.declared.drops.Fault.{Fault}
 use Rattle.framing.specs.declared.drops.Fault.the-variants.{None, Aborted, Short, Control, Check, Overrun}
 use Rattle.framing.specs.declared.frame_reader.State.the-variants.{Start, Data}
 use Rattle.framing.specs.declared.frame_reader.Reading.{Reading}
-use Rattle.framing.proofs.Heard.{heard-quiet}
+use Rattle.framing.proofs.Heard.{fetched-none, heard-quiet}
 use Rattle.framing.proofs.Stuffing.{stuffed-without}
 use Rattle.framing.proofs.Unstuffing.{controlOn, control-length, stuffed-fields, unescaped-stuffed, aborted-stuffed, doubled-stuffed}
 use Rattle.framing.proofs.Inside.{inside, keeps, loses}
@@ -37,18 +37,14 @@ use Rattle.counts.specs.Counts.{judged, between, Usual, flagMet, fresh, 
 
 -- ---- bytes that are no flags
 
--- a fetch changes nothing where no frame is complete
-unfetched : (s : Held) → full s ≡ false → fetchedIn s ≡ s
-unfetched s e = rw e
-
 module _ (s : Held) (b : ℕ) (w : List ℕ) (e : full (step s b) ≡ false) where
   missed-on : missed s (b ∷ w) ≡ together (oneDrop (faultAt s b)) (missed (step s b) w)
   unfolding missed
-  missed-on = rw (unfetched (step s b) e)
+  missed-on = rw (fetched-none (step s b) e)
 
   heard-on : heard s (b ∷ w) .now ≡ heard (step s b) w .now
   unfolding heard
-  heard-on = rw (unfetched (step s b) e)
+  heard-on = rw (fetched-none (step s b) e)
 
 module _ (s : Held) (b : ℕ) (e : s .reader .state ≡ Start) where
   start-counts : faultAt s b ≡ None

@@ -28,28 +28,25 @@ no-one n = (λ p. absurd (n p), λ _. refl)
 
 -- ---- a byte that counts nothing, or for one cause
 
--- no frame end, and nothing to be kept
-nothing : (s : Held) (b : ℕ) → (FrameEnd s b → ⊥) → (Kept s b × (Room s → ⊥) → ⊥) → Told s b noDrops
-nothing s b e k =
+-- no frame end
+no-end : (s : Held) (b n : ℕ) → (FrameEnd s b → ⊥) → Exactly n (Kept s b × (Room s → ⊥))
+    → Told s b (record { aborted = 0; short = 0; control = 0; check = 0; overrun = n })
+no-end s b n e k =
     record {
       aborted = no-one (λ p. e (p .0));
       short = no-one (λ p. e (p .0));
       control = no-one (λ p. e (p .0));
       check = no-one (λ p. e (p .0));
-      overrun = no-one k;
+      overrun = k;
     }
+
+-- and nothing to be kept, or room for it
+nothing : (s : Held) (b : ℕ) → (FrameEnd s b → ⊥) → (Kept s b × (Room s → ⊥) → ⊥) → Told s b noDrops
+nothing s b e k = no-end s b 0 e (no-one k)
 
 -- room runs out
 out : (s : Held) (b : ℕ) → Kept s b → (Room s → ⊥) → Told s b (oneDrop Overrun)
-out s b k r =
-    let e : FrameEnd s b → ⊥ = λ p. k .1 (p .1) in
-    record {
-      aborted = no-one (λ p. e (p .0));
-      short = no-one (λ p. e (p .0));
-      control = no-one (λ p. e (p .0));
-      check = no-one (λ p. e (p .0));
-      overrun = yes (k, r);
-    }
+out s b k r = no-end s b 1 (λ p. k .1 (p .1)) (yes (k, r))
 
 module _ (s : Held) (b : ℕ) (e : FrameEnd s b) where
   kept-not : {P : Type 0} → Kept s b × P → ⊥

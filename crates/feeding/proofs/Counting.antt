@@ -14,7 +14,7 @@ use Rattle.framing.specs.Heard.{fetchedIn}
 use Rattle.framing.specs.Drops.{noDrops, together, drops, missed}
 use Rattle.framing.specs.declared.drops.Drops.{Drops}
 use Rattle.framing.proofs.Reader.{Kept, Alike, full-alike, fed-kept, fed-stop, fed-step, fed-left-le, consumed-fed}
-use Rattle.framing.proofs.Heard.{fetched-kept, fetched-open}
+use Rattle.framing.proofs.Heard.{fetched-kept, fetched-none, fetched-open}
 use Rattle.framing.proofs.Dropping.{together-none, none-together, together-assoc, drops-stop, dropped-drops, missed-nil, missed-fed, missed-alike}
 use Rattle.link.specs.Frames.{alwaysEnough}
 use Rattle.link.specs.Link.{linkOf, heldBy}
@@ -76,22 +76,19 @@ module _ (p : Progress) (h : Lent p) where
 abbrev Total : Progress → Drops
 Total p = together (p .drops) (missed (fetchedIn (readerOf p)) (p .left))
 
-unfetched : (t : Held) → full t ≡ false → fetchedIn t ≡ t
-unfetched t e = rw e
-
 turn-total : (p : Progress) → Lent p → Total (oneTurn p) ≡ Total p
 turn-total p h =
     let q = oneTurn p in
     let t = readerOf p in
     let f = fed t (p .left) in
     let rest : missed (fetchedIn (readerOf q)) (q .left) ≡ missed (fetchedIn (f .now)) (f .left) =
-    ap (λ (x : Held). missed x (q .left)) (unfetched (readerOf q) (turn-open p h))
+    ap (λ (x : Held). missed x (q .left)) (fetched-none (readerOf q) (turn-open p h))
     ∙ missed-alike (readerOf q) (fetchedIn (f .now)) (q .left) (turn-fetches p h)
     ∙ ap (missed (fetchedIn (f .now))) (turn-left p h) in
     let same : together (drops t (p .left)) (missed (fetchedIn (f .now)) (f .left)) ≡ missed (fetchedIn t) (p .left) =
     by-test (full t)
     (λ e. rw (drops-stop t (p .left) e, fed-stop t (p .left) e) (none-together (missed (fetchedIn t) (p .left))))
-    (λ e. sym (missed-fed t (p .left) e) ∙ ap (λ (x : Held). missed x (p .left)) (sym (unfetched t e))) in
+    (λ e. sym (missed-fed t (p .left) e) ∙ ap (λ (x : Held). missed x (p .left)) (sym (fetched-none t e))) in
     ap₂ together (turn-drops p h) rest
     ∙ together-assoc (p .drops) (drops t (p .left)) (missed (fetchedIn (f .now)) (f .left))
     ∙ ap (together (p .drops)) same

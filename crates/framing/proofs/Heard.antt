@@ -17,6 +17,10 @@ use Rattle.framing.proofs.Reader.{Kept, step-kept, fed-kept, fed-nil, f
 pub fetched-kept : (l : ℕ) (s : Held) → Kept l s → Kept l (fetchedIn s)
 fetched-kept l s h = cond-all (Kept l) (full s) (record { room = h .room; within = omega arith }) h
 
+-- where no frame is complete it changes nothing
+pub fetched-none : (s : Held) → full s ≡ false → fetchedIn s ≡ s
+fetched-none s e = rw e
+
 -- once fetched, the reader takes bytes again
 pub fetched-open : (s : Held) → full (fetchedIn s) ≡ false
 fetched-open s = cond-by (λ (t : Held). full t ≡ false) (full s) (λ _. refl) (λ e. e)
