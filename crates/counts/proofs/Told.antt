@@ -18,7 +18,7 @@ use Rattle.framing.specs.declared.frame_reader.State.{State}
 use Rattle.framing.specs.declared.frame_reader.State.the-variants.{Start, Address, Data, Complete}
 use Rattle.framing.specs.declared.frame_reader.Reading.{Reading}
 use Rattle.framing.specs.declared.frame_reader.Reading.the-variants.{Crate, Standard}
-use Rattle.counts.specs.Counts.{Exactly, keptOf, FrameEnd, Abort, Few, Begins, Checks, Kept, Room, Told}
+use Rattle.counts.specs.Counts.{Exactly, keptOf, FrameEnd, EscapeOpen, Few, Begins, Checks, Kept, Room, Told}
 
 yes : {P : Type 0} → P → Exactly 1 P
 yes p = (λ _. refl, λ n. absurd (n p))
@@ -52,7 +52,7 @@ module _ (s : Held) (b : ℕ) (e : FrameEnd s b) where
   kept-not : {P : Type 0} → Kept s b × P → ⊥
   kept-not p = p .0 .1 (e .1)
 
-  aborted-told : Abort s → Told s b (oneDrop Aborted)
+  aborted-told : EscapeOpen s → Told s b (oneDrop Aborted)
   aborted-told a =
       record {
         aborted = yes (e, a);
@@ -62,7 +62,7 @@ module _ (s : Held) (b : ℕ) (e : FrameEnd s b) where
         overrun = no-one kept-not;
       }
 
-  module _ (a : Abort s → ⊥) where
+  module _ (a : EscapeOpen s → ⊥) where
     short-told : Few s → Told s b (oneDrop Short)
     short-told f =
         record {

@@ -32,10 +32,10 @@ keptOf s = take (s .reader .len) (s .buf)
 abbrev pub FrameEnd : Held → ℕ → Type 0
 FrameEnd s b = (s .reader .state ≡ Data) × (b ≡ 0x7E)
 
--- the four causes, each as if alone: an escape is open, in standard reading; fewer than three bytes kept; control byte not 03; bad check
--- (RFC 1662, appendix C.2: F0B8 is the value behind a good frame; behind the address FF it stands at 00FF)
-abbrev pub Abort : Held → Type 0
-Abort s = (s .reader .reading ≡ Standard) × (s .reader .escape ≡ true)
+-- what the four causes look at, each as if alone: an escape that is open, in standard reading, which aborts; fewer than three bytes kept; a first
+-- byte that is 03; a good check (RFC 1662, appendix C.2: F0B8 is the value behind a good frame; behind the address FF it stands at 00FF)
+abbrev pub EscapeOpen : Held → Type 0
+EscapeOpen s = (s .reader .reading ≡ Standard) × (s .reader .escape ≡ true)
 
 abbrev pub Few : Held → Type 0
 Few s = length (keptOf s) < 3
@@ -48,17 +48,17 @@ Checks s = fcs 0x00FF (keptOf s) ≡ 0xF0B8
 
 -- a byte of a frame that is to be kept: no flag, and no escape; 7D behind an escape is a byte in standard reading
 abbrev pub Kept : Held → ℕ → Type 0
-Kept s b = (s .reader .state ≡ Data) × (b ≡ 0x7E → ⊥) × (b ≡ 0x7D → Abort s)
+Kept s b = (s .reader .state ≡ Data) × (b ≡ 0x7E → ⊥) × (b ≡ 0x7D → EscapeOpen s)
 
 abbrev pub Room : Held → Type 0
 Room s = s .reader .len < length (s .buf)
 
 -- what the byte b counts: of the four causes of a frame end the first that applies
 pub record Told (s : Held) (b : ℕ) (d : Drops) : Type 0 where
-  pub aborted : Exactly (d .aborted) (FrameEnd s b × Abort s)
-  pub short : Exactly (d .short) (FrameEnd s b × (Abort s → ⊥) × Few s)
-  pub control : Exactly (d .control) (FrameEnd s b × (Abort s → ⊥) × (Few s → ⊥) × (Begins s → ⊥))
-  pub check : Exactly (d .check) (FrameEnd s b × (Abort s → ⊥) × (Few s → ⊥) × Begins s × (Checks s → ⊥))
+  pub aborted : Exactly (d .aborted) (FrameEnd s b × EscapeOpen s)
+  pub short : Exactly (d .short) (FrameEnd s b × (EscapeOpen s → ⊥) × Few s)
+  pub control : Exactly (d .control) (FrameEnd s b × (EscapeOpen s → ⊥) × (Few s → ⊥) × (Begins s → ⊥))
+  pub check : Exactly (d .check) (FrameEnd s b × (EscapeOpen s → ⊥) × (Few s → ⊥) × Begins s × (Checks s → ⊥))
   pub overrun : Exactly (d .overrun) (Kept s b × (Room s → ⊥))
 
 -- ---- frame ends, one by one
