@@ -10,7 +10,7 @@ use link::refusal::Outcome;
 
 // `sent` bytes are on its own wire, from the front, and `heard` bytes of the other end's were consumed. Then how many calls were
 // refused, how many steps took none of the bytes that were handed in, and what the link knew when it was opened.
-#[derive(Drop)]
+#[derive(Clone, Copy)]
 pub(crate) struct End {
     pub(crate) link: PPPoS,
     pub(crate) sent: usize,

@@ -1,6 +1,8 @@
 // Runs two links against each other and prints how they ended: each of the first 65,536 bytes of standard input is a meeting of the
 // same two ends. A 0 makes both ends anew; another byte brings them back to phase Dead, and its bits say what each then offers, and how
 // it reads.
+#![tactic(auto)]
+
 mod end;
 mod meeting;
 mod offer;

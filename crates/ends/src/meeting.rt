@@ -5,7 +5,7 @@ use crate::wire::{draw, front};
 use link::pppos::ip_packet;
 
 // Both ends, what each is to know at the end of the meeting, and the state of the generator.
-#[derive(Drop)]
+#[derive(Clone, Copy)]
 pub(crate) struct Pair {
     pub(crate) a: End,
     pub(crate) b: End,

@@ -88,7 +88,7 @@ pub(crate) fn offers(link: PPPoS, c: u8, x: u32) -> PPPoS {
 }
 
 // What a link knows of its peer, and the ids that it used last.
-#[derive(Drop)]
+#[derive(Clone, Copy)]
 pub(crate) struct Known {
     pub(crate) map: u32,
     pub(crate) address: u32,

@@ -12,7 +12,7 @@ use phases::ppp::Phase;
 
 // Meetings; ends that are open, and that know the other's values as offered; refused calls, steps that took nothing, ids that passed
 // 255. Then, by how many ends offer name servers: how many ends, and the fewest and the most frames that one wrote.
-#[derive(Drop)]
+#[derive(Clone, Copy)]
 pub(crate) struct Tally {
     meetings: usize,
     opened: usize,

@@ -8,7 +8,7 @@ use framing::drops::Drops;
 use link::choices::Choices;
 use link::pppos::{PPPoS, Polled};
 
-#[derive(Drop)]
+#[derive(Clone, Copy)]
 pub struct Fed {
     pub count: usize,
     pub link: PPPoS,

@@ -4,7 +4,7 @@ ghost use Rattle.framing.specs.Reader.{is_good};
 ghost use Rattle.framing.specs.Drops.{no_drops, one_drop, together, all_of};
 
 // What is wrong with a frame that ends, the first that applies; or with one that goes on.
-#[derive(Drop)]
+#[derive(Clone, Copy)]
 pub enum Fault {
     None,
     // An escape right before the flag, in standard reading.
@@ -20,7 +20,7 @@ pub enum Fault {
 }
 
 // How many, by fault.
-#[derive(Drop)]
+#[derive(Clone, Copy)]
 pub struct Drops {
     pub aborted: usize,
     pub short: usize,

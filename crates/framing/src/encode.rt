@@ -12,7 +12,7 @@ use crate::refusal::{Outcome, Refusal};
 use crate::table::fcstab;
 
 // The count is 0 where the frame does not fit.
-#[derive(Drop)]
+#[derive(Clone, Copy)]
 pub struct Encoded {
     pub outcome: Outcome,
     pub count: usize,

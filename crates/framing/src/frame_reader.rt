@@ -7,7 +7,7 @@ use crate::crc::crc16;
 use crate::drops::{Drops, Fault, is_good};
 use crate::refusal::{Outcome, Refusal};
 
-#[derive(Drop)]
+#[derive(Clone, Copy)]
 pub enum State {
     Start,
     Address,
@@ -16,13 +16,13 @@ pub enum State {
 }
 
 // How bad frames and escapes are read: as the crate does, or as RFC 1662 says.
-#[derive(Drop)]
+#[derive(Clone, Copy)]
 pub enum Reading {
     Crate,
     Standard,
 }
 
-#[derive(Drop)]
+#[derive(Clone, Copy)]
 pub struct FrameReader {
     pub state: State,
     pub escape: bool,
@@ -30,7 +30,7 @@ pub struct FrameReader {
     pub reading: Reading,
 }
 
-#[derive(Drop)]
+#[derive(Clone, Copy)]
 pub struct Consumed {
     pub outcome: Outcome,
     pub count: usize,
@@ -39,21 +39,21 @@ pub struct Consumed {
 }
 
 // What a byte comes to: the reader, and what it dropped.
-#[derive(Drop)]
+#[derive(Clone, Copy)]
 struct Stepped {
     reader: FrameReader,
     fault: Fault,
 }
 
 // The packet's range in the lent buffer, if a frame is complete.
-#[derive(Drop)]
+#[derive(Clone, Copy)]
 pub enum Got {
     Packet { from: usize, to: usize },
     Refused(Refusal),
     Nothing,
 }
 
-#[derive(Drop)]
+#[derive(Clone, Copy)]
 pub struct Received {
     pub got: Got,
     pub reader: FrameReader,

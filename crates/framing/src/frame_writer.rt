@@ -12,28 +12,28 @@ use crate::table::fcstab;
 // The check value behind FF 03.
 pub(crate) const STARTED: u16 = 0x3DE3;
 
-#[derive(Drop)]
+#[derive(Clone, Copy)]
 pub struct FrameWriter {
     pub len: usize,
     pub crc: u16,
     pub asyncmap: u32,
 }
 
-#[derive(Drop)]
+#[derive(Clone, Copy)]
 pub struct Wrote {
     pub outcome: Outcome,
     pub writer: FrameWriter,
 }
 
 // How far a run of units got: whether all fitted, and where the next one goes.
-#[derive(Drop)]
+#[derive(Clone, Copy)]
 pub(crate) struct Spot {
     pub(crate) done: bool,
     pub(crate) at: usize,
 }
 
 // How far a walk over bytes got, and the check value behind them where all fitted.
-#[derive(Drop)]
+#[derive(Clone, Copy)]
 pub(crate) struct Progress {
     pub(crate) spot: Spot,
     pub(crate) crc: u16,

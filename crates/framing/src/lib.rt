@@ -1,4 +1,6 @@
 // HDLC-like framing (RFC 1662): the check value, the frame writer and the frame reader. Nothing here knows of negotiation.
+#![tactic(auto)]
+
 pub mod crc;
 pub mod drops;
 pub mod encode;

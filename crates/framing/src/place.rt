@@ -7,7 +7,7 @@ use crate::drops::Drops;
 use crate::frame_reader::{FrameReader, Got};
 use crate::refusal::Outcome;
 
-#[derive(Drop)]
+#[derive(Clone, Copy)]
 pub struct Took {
     pub outcome: Outcome,
     pub count: usize,

@@ -4,7 +4,7 @@ ghost use Rattle.link.specs.Choices.{plain_in};
 
 use framing::frame_reader::Reading;
 
-#[derive(Drop)]
+#[derive(Clone, Copy)]
 pub struct Choices {
     pub reading: Reading,
 }

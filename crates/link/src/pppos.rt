@@ -14,13 +14,13 @@ use framing::encode::encode_parts;
 use framing::frame_reader::{FrameReader, Got};
 use phases::ppp::{Ppp, Status, Turned};
 
-#[derive(Drop)]
+#[derive(Clone, Copy)]
 pub struct PPPoS {
     pub frame_reader: FrameReader,
     pub ppp: Ppp,
 }
 
-#[derive(Drop)]
+#[derive(Clone, Copy)]
 pub enum PPPoSAction {
     // Nothing to do.
     Idle,
@@ -31,13 +31,13 @@ pub enum PPPoSAction {
     Declined(Refusal),
 }
 
-#[derive(Drop)]
+#[derive(Clone, Copy)]
 pub struct Changed {
     pub outcome: Outcome,
     pub link: PPPoS,
 }
 
-#[derive(Drop)]
+#[derive(Clone, Copy)]
 pub struct Consumed {
     pub outcome: Outcome,
     pub count: usize,
@@ -45,13 +45,13 @@ pub struct Consumed {
     pub drops: Drops,
 }
 
-#[derive(Drop)]
+#[derive(Clone, Copy)]
 pub struct Polled {
     pub action: PPPoSAction,
     pub link: PPPoS,
 }
 
-#[derive(Drop)]
+#[derive(Clone, Copy)]
 pub struct Sent {
     pub outcome: Outcome,
     pub count: usize,

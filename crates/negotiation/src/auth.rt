@@ -8,13 +8,13 @@ use crate::pap::{Pap, PapHandled, is_pap_closed, is_pap_opened};
 use crate::replies::Replies;
 use options::refusal::Outcome;
 
-#[derive(Drop)]
+#[derive(Clone, Copy)]
 pub struct Auth {
     pub credentials: Credentials,
     pub pap: Pap,
 }
 
-#[derive(Drop)]
+#[derive(Clone, Copy)]
 pub struct AuthHandled {
     pub outcome: Outcome,
     pub auth: Auth,

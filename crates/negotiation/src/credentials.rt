@@ -6,7 +6,7 @@ ghost use Rattle.negotiation.specs.Credentials.{max_credentials, fits_credential
 // How many bytes the two may have together.
 const MAX_CREDENTIALS: usize = 120;
 
-#[derive(Drop)]
+#[derive(Clone, Copy)]
 pub struct Credentials {
     pub username_len: usize,
     pub password_len: usize,

@@ -19,7 +19,7 @@ use options::wire::{
     TERMINATE_REQ, length_in,
 };
 
-#[derive(Drop)]
+#[derive(Clone, Copy)]
 pub struct OptionFsm {
     pub id: u8,
     pub state: State,
@@ -27,7 +27,7 @@ pub struct OptionFsm {
 }
 
 // What one packet leaves. `echoed`: the packet is an echo that was answered, so its code becomes 10.
-#[derive(Drop)]
+#[derive(Clone, Copy)]
 pub struct Handled {
     pub outcome: Outcome,
     pub echoed: bool,

@@ -10,20 +10,20 @@ use crate::replies::{Replies, emit_packet};
 use options::refusal::{Outcome, Refusal};
 use options::wire::{CONFIGURE_ACK, CONFIGURE_NACK, CONFIGURE_REQ, PAP, Packet, length_in};
 
-#[derive(Drop)]
+#[derive(Clone, Copy)]
 pub enum PapState {
     Closed,
     ReqSent,
     Opened,
 }
 
-#[derive(Drop)]
+#[derive(Clone, Copy)]
 pub struct Pap {
     pub state: PapState,
     pub id: u8,
 }
 
-#[derive(Drop)]
+#[derive(Clone, Copy)]
 pub(crate) struct PapHandled {
     pub(crate) outcome: Outcome,
     pub(crate) pap: Pap,

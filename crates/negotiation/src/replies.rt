@@ -37,7 +37,7 @@ pub(crate) fn emit_packet(protocol: u16, code: u8, id: u8, b: Packet) -> Packet
 }
 
 // Packets to send, in order: the first `count`.
-#[derive(Drop)]
+#[derive(Clone, Copy)]
 pub struct Replies {
     pub count: usize,
     pub packets: [Packet; MAX_REPLIES],

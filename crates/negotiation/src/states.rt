@@ -4,7 +4,7 @@ ghost use Rattle.negotiation.specs.Automaton.{after_acked, after_not_acked, afte
 
 use options::proto::Verdict;
 
-#[derive(Drop)]
+#[derive(Clone, Copy)]
 pub enum State {
     Closed,
     ReqSent,

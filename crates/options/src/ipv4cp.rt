@@ -7,14 +7,14 @@ ghost use Rattle.options.specs.Ipv4cp.{fresh_ip, shown, shown_ip, own_ip, ip_nac
 use crate::proto::Verdict;
 use crate::wire::{Packet, be};
 
-#[derive(Drop)]
+#[derive(Clone, Copy)]
 pub struct IpOption {
     pub address: u32,
     pub is_rejected: bool,
 }
 
 // An address as it is shown: 0.0.0.0 is none.
-#[derive(Drop)]
+#[derive(Clone, Copy)]
 pub enum Shown {
     Absent,
     At(u32),
@@ -74,7 +74,7 @@ pub fn show(address: u32) -> Shown
     Shown::At(address)
 }
 
-#[derive(Drop)]
+#[derive(Clone, Copy)]
 pub struct Ipv4cp {
     pub peer_address: u32,
     pub address: IpOption,
@@ -82,7 +82,7 @@ pub struct Ipv4cp {
     pub dns_server_2: IpOption,
 }
 
-#[derive(Drop)]
+#[derive(Clone, Copy)]
 pub struct Ipv4cpJudged {
     pub verdict: Verdict,
     pub ipv4cp: Ipv4cp,

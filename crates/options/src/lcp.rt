@@ -8,13 +8,13 @@ ghost use Rattle.options.specs.Lcp.{fresh_lcp, with_auth, start_lcp, suggestion_
 use crate::proto::{Suggested, Verdict};
 use crate::wire::{Packet, be};
 
-#[derive(Drop)]
+#[derive(Clone, Copy)]
 pub enum AuthType {
     None,
     Pap,
 }
 
-#[derive(Drop)]
+#[derive(Clone, Copy)]
 pub struct Lcp {
     pub auth: AuthType,
     pub asyncmap_remote: u32,
@@ -22,7 +22,7 @@ pub struct Lcp {
     pub asyncmap_rej: bool,
 }
 
-#[derive(Drop)]
+#[derive(Clone, Copy)]
 pub struct LcpJudged {
     pub verdict: Verdict,
     pub lcp: Lcp,

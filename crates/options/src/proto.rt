@@ -10,27 +10,27 @@ use crate::refusal::{Outcome, Refusal};
 use crate::walk::{Parsed, parse_option};
 use crate::wire::{MAX_OPTION_LEN, Packet};
 
-#[derive(Drop)]
+#[derive(Clone, Copy)]
 pub enum Proto {
     Lcp(Lcp),
     Ipv4cp(Ipv4cp),
 }
 
-#[derive(Drop)]
+#[derive(Clone, Copy)]
 pub enum Verdict {
     Ack,
     Nack,
     Rej,
 }
 
-#[derive(Drop)]
+#[derive(Clone, Copy)]
 pub(crate) struct Judged {
     pub verdict: Verdict,
     pub proto: Proto,
 }
 
 // The value that a Nack sends back: the first `len` bytes.
-#[derive(Drop)]
+#[derive(Clone, Copy)]
 pub(crate) struct Suggested {
     pub len: usize,
     pub bytes: [u8; MAX_OPTION_LEN],
@@ -112,7 +112,7 @@ fn own_option_nacked(p: Proto, code: u8, d: &[u8], is_rej: bool) -> Proto
 }
 
 // What the options of a Nack or a Rej leave.
-#[derive(Drop)]
+#[derive(Clone, Copy)]
 pub struct Nacked {
     pub outcome: Outcome,
     pub proto: Proto,

@@ -9,7 +9,7 @@ use crate::proto::{Proto, Verdict, peer_option_received, suggestion};
 use crate::refusal::{Outcome, Refusal};
 use crate::wire::{MAX_OPTION_LEN, MAX_OPTIONS, Packet};
 
-#[derive(Drop)]
+#[derive(Clone, Copy)]
 pub enum Parsed {
     Opt { code: u8, len: usize },
     Cut,
@@ -44,7 +44,7 @@ pub(crate) fn sent_back<'a>(v: Verdict, d: &'a [u8], suggested: &'a [u8]) -> &'a
 }
 
 // The reply so far: its verdict, the options listed as bytes, and what the options changed.
-#[derive(Drop)]
+#[derive(Clone, Copy)]
 pub struct Reply {
     pub outcome: Outcome,
     pub verdict: Verdict,

@@ -85,7 +85,7 @@ pub fn length_in(pkt: &[u8]) -> u32
     protocol_in(&pkt[4..])
 }
 
-#[derive(Drop)]
+#[derive(Clone, Copy)]
 pub struct Packet {
     pub len: usize,
     pub bytes: [u8; MAX_PACKET],

@@ -9,7 +9,7 @@ use crate::ring::{byte_at, place, put};
 use link::pppos::PPPoS;
 use negotiation::states::is_opened;
 
-#[derive(Drop)]
+#[derive(Clone, Copy)]
 pub struct Outbox {
     pub size: usize,
     // Where the oldest packet's length stands.
@@ -18,13 +18,13 @@ pub struct Outbox {
     pub held: usize,
 }
 
-#[derive(Drop)]
+#[derive(Clone, Copy)]
 pub struct Accepted {
     pub outcome: Outcome,
     pub outbox: Outbox,
 }
 
-#[derive(Drop)]
+#[derive(Clone, Copy)]
 pub struct Sent {
     pub outcome: Outcome,
     pub count: usize,

@@ -1,7 +1,7 @@
 // The case that is measured, as the first line says it.
 ghost use Rattle.std.specs.Prelude.{◌≤◌};
 
-#[derive(Drop)]
+#[derive(Clone, Copy)]
 pub(crate) struct Case {
     // The line's first letter.
     pub(crate) what: u8,

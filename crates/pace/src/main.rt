@@ -1,6 +1,8 @@
 // Sends packets through an outbox, or over the link alone, so that `bench/run` can time it. The first line of standard input says what a
 // round does (`link`, `accept` or `both`), how long a packet is, how many packets are held already and how many rounds there are; behind
 // it stands what a peer sends to open the link.
+#![tactic(auto)]
+
 mod case;
 mod rounds;
 

@@ -6,7 +6,7 @@ use link::pppos::PPPoS;
 use outbox::outbox::{Outbox, Sent};
 
 // Of frames the lengths and the last check bytes; of packets that are accepted how many are held, and the first byte of the newest.
-#[derive(Drop)]
+#[derive(Clone, Copy)]
 pub(crate) struct Sum {
     pub(crate) counts: u64,
     pub(crate) bytes: u64,

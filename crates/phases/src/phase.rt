@@ -9,7 +9,7 @@ use negotiation::states::{State, is_closed, is_opened};
 use options::lcp::AuthType;
 
 // What a phase step leaves: the record, and at most one packet.
-#[derive(Drop)]
+#[derive(Clone, Copy)]
 pub(crate) struct Stepped {
     pub(crate) ppp: Ppp,
     pub(crate) replies: Replies,

@@ -15,7 +15,7 @@ use options::lcp::Lcp;
 use options::refusal::{Outcome, Refusal};
 use options::wire::{IPV4, IPV4CP, LCP, PAP, protocol_in};
 
-#[derive(Drop)]
+#[derive(Clone, Copy)]
 pub enum Phase {
     Dead,
     Establish,
@@ -24,21 +24,21 @@ pub enum Phase {
     Open,
 }
 
-#[derive(Drop)]
+#[derive(Clone, Copy)]
 pub struct LcpFsm {
     pub id: u8,
     pub state: State,
     pub proto: Lcp,
 }
 
-#[derive(Drop)]
+#[derive(Clone, Copy)]
 pub struct Ipv4cpFsm {
     pub id: u8,
     pub state: State,
     pub proto: Ipv4cp,
 }
 
-#[derive(Drop)]
+#[derive(Clone, Copy)]
 pub struct Ppp {
     pub phase: Phase,
     pub opening: bool,
@@ -47,7 +47,7 @@ pub struct Ppp {
     pub ipv4cp: Ipv4cpFsm,
 }
 
-#[derive(Drop)]
+#[derive(Clone, Copy)]
 pub struct Addresses {
     pub address: Shown,
     pub peer_address: Shown,
@@ -55,26 +55,26 @@ pub struct Addresses {
     pub dns_server_2: Shown,
 }
 
-#[derive(Drop)]
+#[derive(Clone, Copy)]
 pub enum Ipv4Status {
     Down,
     Up(Addresses),
 }
 
-#[derive(Drop)]
+#[derive(Clone, Copy)]
 pub struct Status {
     pub phase: Phase,
     pub ipv4: Ipv4Status,
 }
 
-#[derive(Drop)]
+#[derive(Clone, Copy)]
 pub struct Changed {
     pub outcome: Outcome,
     pub ppp: Ppp,
 }
 
 // `echoed`: the packet is an echo that was answered, so its byte 2 becomes 10.
-#[derive(Drop)]
+#[derive(Clone, Copy)]
 pub struct Turned {
     pub outcome: Outcome,
     pub echoed: bool,

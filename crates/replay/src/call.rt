@@ -4,7 +4,7 @@ use crate::word::{NONE, Word, bytes, next, number, part, which};
 
 // A call's number, where its answer goes on, and its words' values: for bytes their count, and where in the line they begin.
 // The fill bytes are those of the world, which the link's calls do not get.
-#[derive(Drop)]
+#[derive(Clone, Copy)]
 pub(crate) struct Call {
     pub(crate) number: usize,
     pub(crate) at: usize,
@@ -18,7 +18,7 @@ pub(crate) struct Call {
 }
 
 // A word behind the name. A word that is not of the kind that the call has there makes the line a bad one.
-#[derive(Drop)]
+#[derive(Clone, Copy)]
 struct Arg {
     call: usize,
     from: usize,

@@ -3,7 +3,7 @@ use crate::world::lent;
 
 // The bytes from `from` up to `to` have arrived and are not used yet. `len` counts the characters of the line so far; a count
 // above the line's room says that it is too long. The end of the input ends a line as well.
-#[derive(Drop)]
+#[derive(Clone, Copy)]
 pub(crate) struct Input {
     pub(crate) from: usize,
     pub(crate) to: usize,

@@ -1,4 +1,6 @@
 // Answers lines from standard input, each as soon as it has arrived: the calls of oracle/README.md, over the proved library.
+#![tactic(auto)]
+
 mod answer;
 mod call;
 mod dump;
@@ -19,13 +21,13 @@ use outbox::outbox::Outbox;
 
 // The link and the outbox above it. A link's type is long, and a proof lists it at each step: it stands beside the rest, and goes
 // to the calls that need it only.
-#[derive(Drop)]
+#[derive(Clone, Copy)]
 struct Stack {
     uplink: Uplink,
     outbox: Outbox,
 }
 
-#[derive(Drop)]
+#[derive(Clone, Copy)]
 struct Session {
     world: World,
     stack: Stack,

@@ -14,7 +14,7 @@ use link::refusal::{Outcome, Refusal};
 use status_lines::status::{MAX_LINES, lines};
 
 // The link, and what its last consume dropped.
-#[derive(Drop)]
+#[derive(Clone, Copy)]
 pub(crate) struct Uplink {
     pub(crate) link: PPPoS,
     pub(crate) drops: Drops,
@@ -92,7 +92,7 @@ fn consume(link: PPPoS, c: Call, line: &[u8], rx: &mut [u8], out: &mut [u8]) -> 
 }
 
 // Its name in `show::name`, and up to two numbers.
-#[derive(Drop)]
+#[derive(Clone, Copy)]
 struct Action {
     name: usize,
     a: usize,

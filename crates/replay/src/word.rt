@@ -1,7 +1,7 @@
 // Words of a line or a list, and the numbers and bytes that they spell.
 
 // The word from `from` up to `to`; where both are equal there is none.
-#[derive(Drop)]
+#[derive(Clone, Copy)]
 pub(crate) struct Word {
     pub(crate) from: usize,
     pub(crate) to: usize,

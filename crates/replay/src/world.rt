@@ -8,7 +8,7 @@ use framing::frame_reader::{FrameReader, Reading};
 use framing::frame_writer::FrameWriter;
 
 // The writer and the reader each have a buffer that is lent up to its room; fill bytes at a buffer's end are shown as their count.
-#[derive(Drop)]
+#[derive(Clone, Copy)]
 pub(crate) struct World {
     pub(crate) input: Input,
     pub(crate) call: Call,

@@ -1,4 +1,6 @@
 // The status lines of recorded negotiations, each below the name of its file.
+#![tactic(auto)]
+
 use feeding::feed::{feed, start};
 use framing::frame_reader::Reading;
 use libc::STDOUT_FILENO;

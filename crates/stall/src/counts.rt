@@ -3,7 +3,7 @@ use libc::STDOUT_FILENO;
 
 // Packets accepted, sent, and read at the other end as they were made; how often the front passed the buffer's end; sends that had
 // nothing to do; refusals by their number.
-#[derive(Drop)]
+#[derive(Clone, Copy)]
 pub(crate) struct Counts {
     pub(crate) accepted: usize,
     pub(crate) sent: usize,

@@ -1,6 +1,8 @@
 // Packets queue in an outbox while the link is not open, and leave in order once standard input has opened it. Each row of the table
 // has the counts since the start: accepted is sent and held together, and `same` are those sent that the other end reads byte for byte
 // as the packet whose turn it is.
+#![tactic(auto)]
+
 mod arrival;
 mod counts;
 mod packet;

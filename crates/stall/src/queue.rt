@@ -6,7 +6,7 @@ use link::pppos::PPPoS;
 use outbox::outbox::{Outbox, Sent};
 use outbox::refusal::{Outcome, number};
 
-#[derive(Drop)]
+#[derive(Clone, Copy)]
 pub(crate) struct Queue {
     outbox: Outbox,
     counts: Counts,

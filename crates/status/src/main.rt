@@ -1,4 +1,6 @@
 // Reads received serial bytes from standard input and prints what they make of a fresh link: the six status lines.
+#![tactic(auto)]
+
 use feeding::feed::{feed, start};
 use framing::frame_reader::Reading;
 use libc::{STDIN_FILENO, STDOUT_FILENO};
@@ -7,7 +9,7 @@ use link::frames::ALWAYS_ENOUGH;
 use link::pppos::PPPoS;
 use status_lines::status::{MAX_LINES, text};
 
-#[derive(Drop)]
+#[derive(Clone, Copy)]
 struct Step {
     link: PPPoS,
     more: bool,

@@ -1,2 +1,4 @@
 // What shows of a link, as text.
+#![tactic(auto)]
+
 pub mod status;

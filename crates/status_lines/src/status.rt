@@ -10,7 +10,7 @@ use phases::ppp::{Ipv4Status, Phase, Status};
 pub const MAX_LINES: usize = 111;
 
 // What the lines say, in their order.
-#[derive(Drop)]
+#[derive(Clone, Copy)]
 pub(crate) struct Fields {
     pub(crate) phase: Phase,
     pub(crate) up: bool,
@@ -20,7 +20,7 @@ pub(crate) struct Fields {
     pub(crate) dns2: Shown,
 }
 
-#[derive(Drop)]
+#[derive(Clone, Copy)]
 pub struct Written {
     pub outcome: Outcome,
     pub count: usize,
