@@ -142,11 +142,14 @@ zeros (suc n) = (lit< tt, zeros n)
 chosen_lasts : Lasts (λ l. Plain (choices_of l) × ((choices_of l).reading ≡ Crate))
 chosen_lasts =
     record {
-      new = λ name password c p k _ _ x. rw (makes_chosen name password c x) (p, k);
-      «open» = λ l k x. rw (opens-keeps l x) k;
-      consume = λ l rx bs k x. rw (consumes-keeps l rx bs x) k;
-      poll = λ l tx rx _ k x. rw (polls-keeps l tx rx x) k;
+      new = λ name password c p k _ _ x. both (makes_chosen name password c x) p k;
+      «open» = λ l k x. both (opens-keeps l x) k.0 k.1;
+      consume = λ l rx bs k x. both (consumes-keeps l rx bs x) k.0 k.1;
+      poll = λ l tx rx _ k x. both (polls-keeps l tx rx x) k.0 k.1;
     }
+  where
+    both : {c d : Choices} → c ≡ d → Plain d → d.reading ≡ Crate → Plain c × (c.reading ≡ Crate)
+    both e p k = (rw e p, ap (λ (x : Choices). x.reading) e ∙ k)
 
 held_lasts : Lasts (λ l. Held l.ppp)
 held_lasts =
