@@ -1,6 +1,8 @@
 // The status lines of recorded negotiations, each below the name of its file.
 #![tactic(auto)]
 
+ghost use Rattle.std.specs.Prelude.{◌≤◌, length, IfOk};
+
 use feeding::feed::{feed, start};
 use framing::frame_reader::Reading;
 use link::choices::Choices;
