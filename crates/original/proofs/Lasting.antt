@@ -157,11 +157,11 @@ held_lasts =
     (λ name password c b d _.
     let both = name ++ password in
     let filled = each_append (λ x. x < 256) both (replicate (max_credentials - length both) 0) (each_append (λ x. x < 256) name password b d) (zeros (max_credentials - length both)) in
-    record { lcp_id_lem = lit< tt; ipv4cp_id = lit< tt; auth = record { id = lit< tt; bytes = filled } })
-    (λ r p k. record { lcp_id_lem = k.lcp_id_lem; ipv4cp_id = k.ipv4cp_id; auth = k.auth }) (λ l rx bs k. k)
+    record { lcp_id = lit< tt; ipv4cp_id = lit< tt; auth = record { id = lit< tt; bytes = filled } })
+    (λ r p k. record { lcp_id = k.lcp_id; ipv4cp_id = k.ipv4cp_id; auth = k.auth }) (λ l rx bs k. k)
 
 lasting_by : {l : PPPoS} → Plain (choices_of l) × ((choices_of l).reading ≡ Crate) → Held l.ppp → Lasting l
-lasting_by c h = record { plain = c.0; crate_reading = c.1; lcp_id_lem = h.lcp_id_lem; ipv4cp_id = h.ipv4cp_id; pap_id = h.auth.id; credentials = h.auth.bytes }
+lasting_by c h = record { plain = c.0; crate_reading = c.1; lcp_id = h.lcp_id; ipv4cp_id = h.ipv4cp_id; pap_id = h.auth.id; credentials = h.auth.bytes }
 
 lasting_lasts : Lasts Lasting
 lasting_lasts =
