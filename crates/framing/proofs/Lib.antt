@@ -8,7 +8,6 @@ pub mod Formula
 pub mod Frame
 pub mod Good
 pub mod Heard
-mod InPlace
 pub mod Inside
 pub mod OneAnswer
 pub mod Only

@@ -13,10 +13,9 @@ use Rattle.framing.proofs.frame_writer.walk.Goals as goal
 
 pub loop-p-preserved : goal.loop-p-preserved
 loop-p-preserved c =
-    let byte : c.loop-p.i < length c.args.src.now = ltb-true _ _ c.if-i-src.true in
     let a = c.args in
     let n = c.loop-p.i in
-    let h = byte in
+    let h = c.if-i-src.true in
     let u = units-drop a.asyncmap a.src.now n h in (
       omega (arith, h),
       run_within c.append_byte-p.ensures c.loop-p.invariant.1,
@@ -31,10 +30,5 @@ unfolding units
 returns c =
     let s = c.args.src.now in
     let us = units c.args.asyncmap (drop c.loop-p.i s) in
-    ⊎_elim
-    (λ w.
-    let h = ltb-false _ _ w.1.left in
-    let e : drop c.loop-p.i s ≡ [] = drop_of_length-le s h in
-    record { ran = onward_none c.loop-p.p.done (rw e at c.loop-p.invariant.3); check = λ _. sym (fcs_end _ c.loop-p.i s h) ∙ c.loop-p.invariant.4 })
-    (λ w. record { ran = onward_stop us c.loop-p.invariant.3 w.left; check = λ d. cc })
-    c.loop-p-test.branch
+    let h = c.loop-p-test.branch in
+    ?

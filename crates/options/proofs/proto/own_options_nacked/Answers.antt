@@ -15,10 +15,10 @@ returns-in_default c = let l = c.loop-t in
 pub loop-t-preserved : goal.loop-t-preserved
 loop-t-preserved c =
     let parsed : option_of c.loop-t.t.now ≡ Opt c.in-Opt.code c.in-Opt.len = sym c.parse_option.ensures ∙ c.in-Opt.is in
-    let lens : (2 ≤ c.in-Opt.len) × (c.in-Opt.len ≤ length c.loop-t.t.now) = option_len_lem c.loop-t.t.now _ _ (parsed c) in
+    let lens : (2 ≤ c.in-Opt.len) × (c.in-Opt.len ≤ length c.loop-t.t.now) = option_len_lem c.loop-t.t.now _ _ parsed in
     let l = c.loop-t in (
       rw (rest, length-drop) (omega (arith, lens)),
-      l.invariant.1 ∙ nacks-on _ l.q _ l.t.now _ _ _ (omega arith) (parsed) l.invariant.0 c.own_option_nacked-q.ensures,
+      l.invariant.1 ∙ nacks-on _ l.q _ l.t.now _ _ _ (omega arith) parsed l.invariant.0 c.own_option_nacked-q.ensures,
     )
 
 pub returns : goal.returns

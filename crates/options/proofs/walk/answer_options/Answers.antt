@@ -22,20 +22,20 @@ returns-then-not-is_done c =
     let parsed : option_of c.loop-t.t.now ≡ Opt c.in-Opt.code c.in-Opt.len = sym c.parse_option.ensures ∙ c.in-Opt.is in
     let l = c.loop-t in (
       rw (← c.fresh-r.ensures.0)
-          (sym (l.invariant.2 ∙ reply-stop l.r _ l.t.now _ _ _ (omega arith) (parsed) l.invariant.0 c.answer_option-r.ensures.0
-          (sym c.is_done.ensures ∙ not-true _ c.if-not-is_done.true))),
+          (sym (l.invariant.2 ∙ reply-stop l.r _ l.t.now _ _ _ (omega arith) parsed l.invariant.0 c.answer_option-r.ensures.0
+          (sym c.is_done.ensures ∙ c.if-not-is_done.true))),
       c.answer_option-r.ensures.1,
     )
 
 pub loop-t-preserved : goal.loop-t-preserved
 loop-t-preserved c =
     let parsed : option_of c.loop-t.t.now ≡ Opt c.in-Opt.code c.in-Opt.len = sym c.parse_option.ensures ∙ c.in-Opt.is in
-    let lens : (2 ≤ c.in-Opt.len) × (c.in-Opt.len ≤ length c.loop-t.t.now) = option_len_lem c.loop-t.t.now _ _ (parsed c) in
+    let lens : (2 ≤ c.in-Opt.len) × (c.in-Opt.len ≤ length c.loop-t.t.now) = option_len_lem c.loop-t.t.now _ _ parsed in
     let l = c.loop-t in (
       rw (rest, length-drop) (omega (arith, lens)),
       c.answer_option-r.ensures.1,
-      l.invariant.2 ∙ reply-on l.r _ l.t.now _ _ _ (omega arith) (parsed) l.invariant.0 c.answer_option-r.ensures.0
-          (sym c.is_done.ensures ∙ not-false _ c.if-not-is_done.false),
+      l.invariant.2 ∙ reply-on l.r _ l.t.now _ _ _ (omega arith) parsed l.invariant.0 c.answer_option-r.ensures.0
+          (sym c.is_done.ensures ∙ c.if-not-is_done.false),
     )
 
 pub returns : goal.returns
