@@ -1,15 +1,14 @@
 use borrow.Author.Rules.{rules}
 use mathlib.Core.Path.{◌≡◌, sym, subst, ◌∙◌}
 use mathlib.Core.List.{[]}
-use mathlib.Core.Logic.{⊎_elim}
 use Prim.Native.Nat.{ℕ, ◌+◌, ◌-◌, ◌^◌, ◌<◌}
 use native.Mathlib.Omega.{arith}
-use borrow.Author.Tests.{ltb-true, ltb-false}
 use lib.ListN.{length, get_or, drop, drop_of_length-le}
 use Rattle.framing.specs.Writer.{units}
 use Rattle.framing.proofs.Run.{onward_turn, onward_stop, onward_none, run_within, units-drop}
 use Rattle.framing.proofs.Fcs.{fcs_turn, fcs_end, fcs_byte_lt}
 use Rattle.framing.proofs.frame_writer.walk.Goals as goal
+use Rattle.framing.proofs.frame_writer.walk.Goals.{then-loop-p-test+else-i-src, else-loop-p-test}
 
 pub loop-p-preserved : goal.loop-p-preserved
 loop-p-preserved c =
@@ -30,5 +29,10 @@ unfolding units
 returns c =
     let s = c.args.src.now in
     let us = units c.args.asyncmap (drop c.loop-p.i s) in
-    let h = c.loop-p-test.branch in
-    ?
+    elim c.loop-p-test.branch [
+      | then-loop-p-test+else-i-src w ↦
+          let h = w.if-i-src.false in
+          let e : drop c.loop-p.i s ≡ [] = drop_of_length-le s h in
+          record { ran = onward_none c.loop-p.p.done (rw e at c.loop-p.invariant.3); check = λ _. sym (fcs_end _ c.loop-p.i s h) ∙ c.loop-p.invariant.4 }
+      | else-loop-p-test w ↦ record { ran = onward_stop us c.loop-p.invariant.3 w.loop-p-test.false; check = λ d. cc }
+    ]

@@ -1,0 +1,17 @@
+use mathlib.Core.Path.{sym, ◌∙◌}
+use Rattle.phases.proofs.Phasing.{turns-refused, turns-rested, turns-done}
+use Rattle.phases.proofs.ppp.Ppp.turn.Goals as goal
+
+pub returns-in-Refused : goal.returns-in-Refused
+returns-in-Refused c = let a = c.args in
+    turns-refused a.self a.pkt.now c.received-t.ensures c.in-Refused.is c.refuse.ensures
+
+pub returns-then-rests : goal.returns-then-rests
+returns-then-rests c =
+    let a = c.args in
+    turns-rested a.self a.pkt.now c.received-t.ensures c.in_default.is (sym c.rests.ensures ∙ c.if-rests.true)
+
+pub returns : goal.returns
+returns c =
+    let a = c.args in
+    turns-done a.self a.pkt.now c.received-t.ensures c.in_default.is c.step_phase-s.ensures c.join.ensures
