@@ -142,11 +142,14 @@ zeros (suc n) = (lit< tt, zeros n)
 chosen_lasts : Lasts (λ l. Plain (choices_of l) × ((choices_of l).reading ≡ Crate))
 chosen_lasts =
     record {
-      new = λ name password c p k _ _ x. rw (makes_chosen name password c x) (p, k);
-      «open» = λ l k x. rw (opens-keeps l x) k;
-      consume = λ l rx bs k x. rw (consumes-keeps l rx bs x) k;
-      poll = λ l tx rx _ k x. rw (polls-keeps l tx rx x) k;
+      new = λ name password c p k _ _ x. both (makes_chosen name password c x) p k;
+      «open» = λ l k x. both (opens-keeps l x) k.0 k.1;
+      consume = λ l rx bs k x. both (consumes-keeps l rx bs x) k.0 k.1;
+      poll = λ l tx rx _ k x. both (polls-keeps l tx rx x) k.0 k.1;
     }
+  where
+    both : {c d : Choices} → c ≡ d → Plain d → d.reading ≡ Crate → Plain c × (c.reading ≡ Crate)
+    both e p k = (rw e p, ap (λ (x : Choices). x.reading) e ∙ k)
 
 held_lasts : Lasts (λ l. Held l.ppp)
 held_lasts =
@@ -154,11 +157,11 @@ held_lasts =
     (λ name password c b d _.
     let both = name ++ password in
     let filled = each_append (λ x. x < 256) both (replicate (max_credentials - length both) 0) (each_append (λ x. x < 256) name password b d) (zeros (max_credentials - length both)) in
-    record { lcp_id_lem = lit< tt; ipv4cp_id = lit< tt; auth = record { id = lit< tt; bytes = filled } })
-    (λ r p k. record { lcp_id_lem = k.lcp_id_lem; ipv4cp_id = k.ipv4cp_id; auth = k.auth }) (λ l rx bs k. k)
+    record { lcp_id = lit< tt; ipv4cp_id = lit< tt; auth = record { id = lit< tt; bytes = filled } })
+    (λ r p k. record { lcp_id = k.lcp_id; ipv4cp_id = k.ipv4cp_id; auth = k.auth }) (λ l rx bs k. k)
 
 lasting_by : {l : PPPoS} → Plain (choices_of l) × ((choices_of l).reading ≡ Crate) → Held l.ppp → Lasting l
-lasting_by c h = record { plain = c.0; crate_reading = c.1; lcp_id_lem = h.lcp_id_lem; ipv4cp_id = h.ipv4cp_id; pap_id = h.auth.id; credentials = h.auth.bytes }
+lasting_by c h = record { plain = c.0; crate_reading = c.1; lcp_id = h.lcp_id; ipv4cp_id = h.ipv4cp_id; pap_id = h.auth.id; credentials = h.auth.bytes }
 
 lasting_lasts : Lasts Lasting
 lasting_lasts =

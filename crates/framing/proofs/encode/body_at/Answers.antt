@@ -12,7 +12,7 @@ returns-then-not-w c =
 
 pub parts_at-requires : goal.parts_at-requires
 parts_at-requires c =
-    (search rules, run_within c.walk-w.ensures.ran c.requires.1)
+    run_within c.walk-w.ensures.ran c.requires
 
 pub returns : goal.returns
 returns c =

@@ -15,7 +15,7 @@ returns-then-not-s c =
 
 pub body_at-w-requires : goal.body_at-w-requires
 body_at-w-requires c =
-    (search rules, run_within c.start_at-s.ensures c.requires.1)
+    run_within c.start_at-s.ensures c.requires
 
 pub returns-then-not-w : goal.returns-then-not-w
 returns-then-not-w c =
@@ -25,7 +25,7 @@ returns-then-not-w c =
 
 pub finish_at-requires : goal.finish_at-requires
 finish_at-requires c =
-    run_within c.body_at-w.ensures.ran (run_within c.start_at-s.ensures c.requires.1)
+    run_within c.body_at-w.ensures.ran (run_within c.start_at-s.ensures c.requires)
 
 pub returns : goal.returns
 returns c =

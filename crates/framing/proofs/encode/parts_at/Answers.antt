@@ -10,7 +10,7 @@ returns-then-not-w c =
 
 pub walk-requires : goal.walk-requires
 walk-requires c =
-    (search rules, run_within c.walk-w.ensures.ran c.requires.1)
+    run_within c.walk-w.ensures.ran c.requires
 
 pub returns : goal.returns
 returns c =

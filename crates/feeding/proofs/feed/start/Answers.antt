@@ -1,0 +1,6 @@
+use Rattle.feeding.proofs.Feeding.{start_polls}
+use Rattle.feeding.proofs.feed.start.Goals as goal
+
+pub returns : goal.returns
+returns c =
+    start_polls _ _ c.new-c.ensures c.open-o.ensures c.poll.ensures
