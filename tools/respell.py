@@ -82,7 +82,7 @@ def table():
                 turn[n] = to
     # a lemma that would have its definition's name
     for n in sorted(turn):
-        if "-" in n and (turn[n] in heads or any(turn[m] == turn[n] for m in turn if m != n and "-" not in m)):
+        if "-" in n and n in heads and (turn[n] in heads or any(turn[m] == turn[n] for m in turn if m != n and "-" not in m)):
             turn[n] += "_lem"
     return turn, heads | fields
 

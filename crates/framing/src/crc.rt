@@ -19,7 +19,7 @@ fn index(x: u32) -> usize
 }
 
 // One byte, by a table that is lent: `(fcs >> 8) ^ fcstab[(fcs ^ c) & 0xff]` in the paper. Held in 32 bits the register is quicker to take on.
-pub(crate) fn step(table: &[u16], seed: u32, b: u8) -> u32
+fn step_by_table(table: &[u16], seed: u32, b: u8) -> u32
     requires { Table table.now }
     ensures { result ≡ fcs_byte seed b }
 {
@@ -32,13 +32,13 @@ pub fn crc16(seed: u16, src: &[u8]) -> u16
     let table = fcstab();
     let mut s = seed as u32;
     for i in 0..src.len() {
-        s = step(&table, s, src[i]);
+        s = step_by_table(&table, s, src[i]);
     }
     s as u16
 }
 
 // One byte, by the formula.
-fn step_by_formula(seed: u16, b: u8) -> u16
+pub(crate) fn step(seed: u16, b: u8) -> u16
     ensures { result ≡ fcs_byte seed b }
 {
     let e = ((seed % 256) as u8) ^ b;
@@ -51,7 +51,7 @@ pub fn crc16_by_formula(seed: u16, src: &[u8]) -> u16
 {
     let mut s = seed;
     for i in 0..src.len() {
-        s = step_by_formula(s, src[i]);
+        s = step(s, src[i]);
     }
     s
 }

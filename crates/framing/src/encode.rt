@@ -1,7 +1,6 @@
 // One packet: its frame in a lent buffer, and the frame's length.
 ghost use Rattle.std.specs.Prelude.{◌≡◌, ◌++◌, ◌*◌, ◌≤◌, length};
 ghost use Rattle.framing.specs.Rfc1662.{unit, stuffed, frame};
-ghost use Rattle.framing.specs.Table.{Table};
 ghost use Rattle.framing.specs.Writer.{frame_units, Ran, Walked, Encodes, capped};
 
 use crate::crc::crc16;
@@ -9,7 +8,6 @@ use crate::frame_writer::{
     Progress, STARTED, Spot, check_bytes, escapes, finish_at, start_at, walk,
 };
 use crate::refusal::{Outcome, Refusal};
-use crate::table::fcstab;
 
 // The count is 0 where the frame does not fit.
 #[derive(Clone, Copy)]
@@ -20,7 +18,6 @@ pub struct Encoded {
 
 // Two parts, walked one behind the other.
 fn parts_at(
-    table: &[u16],
     buf: &mut [u8],
     at: usize,
     asyncmap: u32,
@@ -28,20 +25,19 @@ fn parts_at(
     head: &[u8],
     rest: &[u8],
 ) -> Progress
-    requires { Table table.now × (at ≤ length buf.old) }
+    requires { at ≤ length buf.old }
     ensures { Walked asyncmap (head.now ++ rest.now) buf.old at crc buf.new result.spot.at result.crc result.spot.done }
 {
-    let w = walk(table, buf, at, asyncmap, crc, head);
+    let w = walk(buf, at, asyncmap, crc, head);
     if !w.spot.done {
         return w;
     }
     let next = w.spot.at;
-    walk(table, buf, next, asyncmap, w.crc, rest)
+    walk(buf, next, asyncmap, w.crc, rest)
 }
 
 // Three parts behind FF 03, walked one behind the other.
 fn body_at(
-    table: &[u16],
     buf: &mut [u8],
     at: usize,
     asyncmap: u32,
@@ -49,28 +45,20 @@ fn body_at(
     part: &[u8],
     rest: &[u8],
 ) -> Progress
-    requires { Table table.now × (at ≤ length buf.old) }
+    requires { at ≤ length buf.old }
     ensures { Walked asyncmap (head.now ++ (part.now ++ rest.now)) buf.old at 0x3DE3 buf.new result.spot.at result.crc result.spot.done }
 {
-    let w = walk(table, buf, at, asyncmap, STARTED, head);
+    let w = walk(buf, at, asyncmap, STARTED, head);
     if !w.spot.done {
         return w;
     }
     let next = w.spot.at;
-    parts_at(table, buf, next, asyncmap, w.crc, part, rest)
+    parts_at(buf, next, asyncmap, w.crc, part, rest)
 }
 
 // The frame of a packet that lies in three parts.
-fn frame_at(
-    table: &[u16],
-    buf: &mut [u8],
-    at: usize,
-    asyncmap: u32,
-    head: &[u8],
-    part: &[u8],
-    rest: &[u8],
-) -> Spot
-    requires { Table table.now × (at ≤ length buf.old) }
+fn frame_at(buf: &mut [u8], at: usize, asyncmap: u32, head: &[u8], part: &[u8], rest: &[u8]) -> Spot
+    requires { at ≤ length buf.old }
     ensures { Ran (frame_units asyncmap (head.now ++ (part.now ++ rest.now))) buf.old at buf.new result.at result.done }
 {
     let s = start_at(buf, at, asyncmap);
@@ -78,7 +66,7 @@ fn frame_at(
         return s;
     }
     let next = s.at;
-    let w = body_at(table, buf, next, asyncmap, head, part, rest);
+    let w = body_at(buf, next, asyncmap, head, part, rest);
     if !w.spot.done {
         return w.spot;
     }
@@ -90,8 +78,7 @@ fn frame_at(
 pub fn encode_parts(buf: &mut [u8], asyncmap: u32, head: &[u8], part: &[u8], rest: &[u8]) -> Encoded
     ensures { Encodes asyncmap (head.now ++ (part.now ++ rest.now)) buf.old result.outcome result.count buf.new }
 {
-    let table = fcstab();
-    let p = frame_at(&table, buf, 0, asyncmap, head, part, rest);
+    let p = frame_at(buf, 0, asyncmap, head, part, rest);
     if p.done {
         return Encoded {
             outcome: Outcome::Done,

@@ -1,13 +1,11 @@
 // The frame writer: its state by value, the buffer lent to each call.
 ghost use Rattle.std.specs.Prelude.{◌≡◌, [], ◌∷◌, cond, ◌/◌, ◌%◌, ◌≤◌, length};
 ghost use Rattle.framing.specs.Rfc1662.{escaped, unit, check_bytes};
-ghost use Rattle.framing.specs.Table.{Table};
 ghost use Rattle.framing.specs.Refusal.{outcome_number};
 ghost use Rattle.framing.specs.Writer.{units, start_units, finish_units, Ran, Walked, fresh_writer, written, Starts, Appends, Finishes};
 
 use crate::crc::step;
 use crate::refusal::{Outcome, Refusal};
-use crate::table::fcstab;
 
 // The check value behind FF 03.
 pub(crate) const STARTED: u16 = 0x3DE3;
@@ -92,30 +90,23 @@ fn append_byte(buf: &mut [u8], at: usize, asyncmap: u32, b: u8) -> Spot
 }
 
 // Each byte once, up to the first that does not fit: the check value steps over it as it is, and beside that it is written as it is sent.
-pub(crate) fn walk(
-    table: &[u16],
-    buf: &mut [u8],
-    at: usize,
-    asyncmap: u32,
-    crc: u16,
-    src: &[u8],
-) -> Progress
-    requires { Table table.now × (at ≤ length buf.old) }
+pub(crate) fn walk(buf: &mut [u8], at: usize, asyncmap: u32, crc: u16, src: &[u8]) -> Progress
+    requires { at ≤ length buf.old }
     ensures { Walked asyncmap src.now buf.old at crc buf.new result.spot.at result.crc result.spot.done }
 {
     let mut p = Spot { done: true, at };
-    let mut check = crc as u32;
+    let mut check = crc;
     let mut i = 0;
     while p.done && i < src.len() {
         let b = src[i];
         let at = p.at;
-        check = step(table, check, b);
+        check = step(check, b);
         p = append_byte(buf, at, asyncmap, b);
         i += 1;
     }
     Progress {
         spot: p,
-        crc: check as u16,
+        crc: check,
     }
 }
 
@@ -251,8 +242,7 @@ impl FrameWriter {
         if buf.len() < at {
             return short(self);
         }
-        let table = fcstab();
-        let w = walk(&table, buf, at, self.asyncmap, self.crc, src);
+        let w = walk(buf, at, self.asyncmap, self.crc, src);
         answer(w.spot, self.crc, w.crc, self.asyncmap)
     }
 

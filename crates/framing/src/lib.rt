@@ -4,7 +4,6 @@
 pub mod crc;
 pub mod drops;
 pub mod encode;
-pub mod exports;
 pub mod frame_reader;
 pub mod frame_writer;
 pub mod place;

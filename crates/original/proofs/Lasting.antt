@@ -1,12 +1,12 @@
 -- What a link keeps, from new on under every call.
 -- Assumes nothing.
-use mathlib.Core.Path.{◌≡◌, refl, ap, sym, ◌∙◌}
+use mathlib.Core.Path.{◌≡◌, ap, sym, ◌∙◌}
 use mathlib.Core.Bool.{true, false, true≢false, false≢true}
 use mathlib.Core.List.{List, [], ◌++◌}
 use Prim.Native.Nat.{ℕ, zero, suc, ◌+◌, ◌-◌, ◌≤◌, ◌<◌}
 use native.Mathlib.Omega.{arith}
 use borrow.Author.Tests.{le-leb, lt-ltb}
-use lib.Dec.{ltb, leb, eqb, lit<, lit≤}
+use lib.Dec.{ltb, eqb, lit<, lit≤}
 use lib.ListN.{length, drop, replicate, length-append, length-replicate}
 use Rattle.laws.specs.Each.{Bytes}
 use Rattle.laws.proofs.Each.{each_append}
@@ -23,12 +23,12 @@ use Rattle.negotiation.specs.Automaton.{is_closed, is_opened}
 use Rattle.negotiation.specs.Credentials.{max_credentials, fits_credentials}
 use Rattle.negotiation.specs.Auth.{is_auth_opened, auth_handle_of, opened_auth, closed_auth}
 use Rattle.negotiation.proofs.CredentialLaws.{fits_sum}
-use Rattle.phases.specs.Phases.{fresh_ppp, with_phase, with_opening, Turn, Step, reject_of, received_of, by_auth, establish_of, auth_of, network_of, by_phase, dies_of, settled, phase_of, poll_of, turn_of, is_dead, new_of}
+use Rattle.phases.specs.Phases.{fresh_ppp, with_phase, with_opening, Turn, Step, reject_of, received_of, by_auth, establish_of, auth_of, network_of, by_phase, dies_of, settled, phase_of, turn_of, is_dead, new_of}
 use Rattle.phases.specs.declared.ppp.Phase.{Phase}
 use Rattle.phases.specs.declared.ppp.Phase.TheVariants.{Dead, Establish, Auth, Network, Open}
 use Rattle.phases.specs.declared.ppp.Ppp.{Ppp}
 use Rattle.link.specs.Choices.{choices_of, Plain}
-use Rattle.link.specs.Link.{link_of, held_by, is_ip, poll_link, answered_poll}
+use Rattle.link.specs.Link.{link_of, held_by, is_ip, poll_link}
 use Rattle.link.specs.declared.choices.Choices.{Choices}
 use Rattle.link.specs.declared.pppos.PPPoS.{PPPoS}
 use Rattle.link.proofs.Leaving.{poll-leaves}
@@ -157,11 +157,11 @@ held_lasts =
     (λ name password c b d _.
     let both = name ++ password in
     let filled = each_append (λ x. x < 256) both (replicate (max_credentials - length both) 0) (each_append (λ x. x < 256) name password b d) (zeros (max_credentials - length both)) in
-    record { lcp_id_lem = lit< tt; ipv4cp_id = lit< tt; auth = record { id = lit< tt; bytes = filled } })
-    (λ r p k. record { lcp_id_lem = k.lcp_id_lem; ipv4cp_id = k.ipv4cp_id; auth = k.auth }) (λ l rx bs k. k)
+    record { lcp_id = lit< tt; ipv4cp_id = lit< tt; auth = record { id = lit< tt; bytes = filled } })
+    (λ r p k. record { lcp_id = k.lcp_id; ipv4cp_id = k.ipv4cp_id; auth = k.auth }) (λ l rx bs k. k)
 
 lasting_by : {l : PPPoS} → Plain (choices_of l) × ((choices_of l).reading ≡ Crate) → Held l.ppp → Lasting l
-lasting_by c h = record { plain = c.0; crate_reading = c.1; lcp_id_lem = h.lcp_id_lem; ipv4cp_id = h.ipv4cp_id; pap_id = h.auth.id; credentials = h.auth.bytes }
+lasting_by c h = record { plain = c.0; crate_reading = c.1; lcp_id = h.lcp_id; ipv4cp_id = h.ipv4cp_id; pap_id = h.auth.id; credentials = h.auth.bytes }
 
 lasting_lasts : Lasts Lasting
 lasting_lasts =

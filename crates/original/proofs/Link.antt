@@ -32,7 +32,7 @@ use Rattle.original.proofs.Refused.{refused_at}
 use Rattle.original.proofs.Polls.{mid, other_protocols, refused_is, received-same}
 
 pub lasting_held : {l : PPPoS} → Lasting l → received.Held l.ppp
-lasting_held p = record { lcp_id_lem = p.lcp_id_lem; ipv4cp_id = p.ipv4cp_id; auth = record { id = p.pap_id; bytes = p.credentials } }
+lasting_held p = record { lcp_id = p.lcp_id; ipv4cp_id = p.ipv4cp_id; auth = record { id = p.pap_id; bytes = p.credentials } }
 
 module _ (l : PPPoS) (tx rx : List ℕ) (d : InDomain l rx) (framed : Framed l.frame_reader) where
   abbrev to : ℕ

@@ -78,7 +78,7 @@ settle_is : (q : ppp.Ppp) → theirs.settle (view_ppp q) ≡ view_ppp (ours.sett
 settle_is q = rw (closed_is q.lcp.state) (sym (cond_ap view_ppp (is_closed q.lcp.state && not q.opening) (ours.with_phase q Dead) q))
 
 settled-held : (q : ppp.Ppp) → Held q → Held (ours.settled q)
-settled-held q h = cond_all Held (is_closed q.lcp.state && not q.opening) (record { lcp_id_lem = h.lcp_id_lem; ipv4cp_id = h.ipv4cp_id; auth = h.auth }) h
+settled-held q h = cond_all Held (is_closed q.lcp.state && not q.opening) (record { lcp_id = h.lcp_id; ipv4cp_id = h.ipv4cp_id; auth = h.auth }) h
 
 -- where a step before the last test has come to
 pub ends : (q : ppp.Ppp) {tx : List Packet} {sent : List (List ℕ)} → Held q → Carried tx sent

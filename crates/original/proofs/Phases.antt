@@ -48,7 +48,7 @@ next_small i = mod-lt (i + 1) {m = 256} (lit< tt)
 
 module _ (o : Bool) (i : ℕ) (s : State) (x : lcp.Lcp) (c : authentication.Auth) (j : ℕ) (y : ipv4cp.Ipv4cp) (hi : i < 256) (hc : credentials.Held c) (hj : j < 256) where
   any_held : (f : Phase) (o : Bool) (i j : ℕ) (s t : State) (x : lcp.Lcp) (y : ipv4cp.Ipv4cp) → i < 256 → j < 256 → Held (at f o i s x c j t y)
-  any_held f o i j s t x y h k = record { lcp_id_lem = h; ipv4cp_id = k; auth = hc }
+  any_held f o i j s t x y h k = record { lcp_id = h; ipv4cp_id = k; auth = hc }
 
   abbrev Goal : Phase → State → Type 0
   Goal f t = SamePhase (at f o i s x c j t y) (theirs.poll_ppp (view_ppp (at f o i s x c j t y)))
@@ -118,7 +118,7 @@ module _ (o : Bool) (i : ℕ) (m n : ℕ) (b : Bool) (c : authentication.Auth) (
   -- no packet comes, and PAP and IPv4CP are shut
   shuts : (s : State) (a : auth.AuthType) (t : State) → Held (ours.closes_ipv4cp (ours.closes_auth (at Establish o i s (with a) c j t y)))
   unfolding closed_auth
-  shuts s a t = record { lcp_id_lem = hi; ipv4cp_id = hj; auth = record { id = hc.id; bytes = hc.bytes } }
+  shuts s a t = record { lcp_id = hi; ipv4cp_id = hj; auth = record { id = hc.id; bytes = hc.bytes } }
 
   waits : (a : auth.AuthType) (s t : State) → is_closed s ≡ false → is_opened s ≡ false → Here s a t
   unfolding theirs.poll_ppp ours.phase_of ours.establish_of
@@ -134,7 +134,7 @@ module _ (o : Bool) (i : ℕ) (m n : ℕ) (b : Bool) (c : authentication.Auth) (
   starts a t =
       let p = at Establish false (next_id i) ReqSent (with a) c j t y in
       rw (open_lcp_lem i (with a), shut_both p)
-      (same (ends (ours.closes_ipv4cp (ours.closes_auth p)) (record { lcp_id_lem = next_small i; ipv4cp_id = hj; auth = record { id = hc.id; bytes = hc.bytes } })
+      (same (ends (ours.closes_ipv4cp (ours.closes_auth p)) (record { lcp_id = next_small i; ipv4cp_id = hj; auth = record { id = hc.id; bytes = hc.bytes } })
       (more (request-carries lcp_protocol proto.Lcp view_lcp lcp_stands i (with a)) none)))
 
   none-opens : (t : State) → Here Opened auth.TheVariants.None t
@@ -160,7 +160,7 @@ module _ (o : Bool) (i : ℕ) (m n : ℕ) (b : Bool) (c : authentication.Auth) (
   unfolding ours.phase_of ours.establish_of opened_auth opened_pap pap_requested
   asked-steps t =
       let h : credentials.Held asking = record { id = hc.id; bytes = hc.bytes } in
-      ends (at Auth o i Opened (with auth.TheVariants.Pap) sent j t y) (record { lcp_id_lem = hi; ipv4cp_id = hj; auth = credentials.stepped-held asking h })
+      ends (at Auth o i Opened (with auth.TheVariants.Pap) sent j t y) (record { lcp_id = hi; ipv4cp_id = hj; auth = credentials.stepped-held asking h })
       (more (credentials.request-carries asking h) none)
 
   pap-opens : (t : State) → Here Opened auth.TheVariants.Pap t
@@ -184,10 +184,10 @@ pub phase_same : (p : ppp.Ppp) → Held p → SamePhase p (theirs.poll_ppp (view
 phase_same p h = go p.phase
   where
     go : (f : Phase) → SamePhase (ours.with_phase p f) (theirs.poll_ppp (view_ppp (ours.with_phase p f)))
-    go Dead = in-dead p.opening p.lcp.id p.lcp.state p.lcp.proto p.auth p.ipv4cp.id p.ipv4cp.proto h.lcp_id_lem h.auth h.ipv4cp_id p.ipv4cp.state
+    go Dead = in-dead p.opening p.lcp.id p.lcp.state p.lcp.proto p.auth p.ipv4cp.id p.ipv4cp.proto h.lcp_id h.auth h.ipv4cp_id p.ipv4cp.state
     go Establish =
-        in-establish p.opening p.lcp.id p.lcp.proto.asyncmap_remote p.lcp.proto.asyncmap p.lcp.proto.asyncmap_rej p.auth p.ipv4cp.id p.ipv4cp.proto h.lcp_id_lem h.auth h.ipv4cp_id
+        in-establish p.opening p.lcp.id p.lcp.proto.asyncmap_remote p.lcp.proto.asyncmap p.lcp.proto.asyncmap_rej p.auth p.ipv4cp.id p.ipv4cp.proto h.lcp_id h.auth h.ipv4cp_id
         p.lcp.state p.lcp.proto.auth p.ipv4cp.state
-    go Auth = in-auth p.opening p.lcp.id p.lcp.state p.lcp.proto p.auth p.ipv4cp.id p.ipv4cp.proto h.lcp_id_lem h.auth h.ipv4cp_id p.ipv4cp.state
-    go Network = in-network p.opening p.lcp.id p.lcp.state p.lcp.proto p.auth p.ipv4cp.id p.ipv4cp.proto h.lcp_id_lem h.auth h.ipv4cp_id p.ipv4cp.state
-    go Open = in-open p.opening p.lcp.id p.lcp.state p.lcp.proto p.auth p.ipv4cp.id p.ipv4cp.proto h.lcp_id_lem h.auth h.ipv4cp_id p.ipv4cp.state
+    go Auth = in-auth p.opening p.lcp.id p.lcp.state p.lcp.proto p.auth p.ipv4cp.id p.ipv4cp.proto h.lcp_id h.auth h.ipv4cp_id p.ipv4cp.state
+    go Network = in-network p.opening p.lcp.id p.lcp.state p.lcp.proto p.auth p.ipv4cp.id p.ipv4cp.proto h.lcp_id h.auth h.ipv4cp_id p.ipv4cp.state
+    go Open = in-open p.opening p.lcp.id p.lcp.state p.lcp.proto p.auth p.ipv4cp.id p.ipv4cp.proto h.lcp_id h.auth h.ipv4cp_id p.ipv4cp.state

@@ -67,11 +67,11 @@ pub same_framing : SameFraming
 same_framing =
     record {
       check_value = same-crc16;
-      new_writer_lem = λ m buf. refl;
+      new_writer = λ m buf. refl;
       start-frame = same_start;
       append_bytes = same-append;
       finish-frame = same-finish;
-      new_reader_lem = refl;
+      new_reader = refl;
       consume_bytes = same-consume;
       receive_packet = same-receive;
     }

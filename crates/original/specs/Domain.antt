@@ -15,7 +15,7 @@ use Rattle.link.specs.declared.pppos.PPPoSAction.{PPPoSAction}
 pub record Lasting (l : PPPoS) : Type 0 where
   pub plain : Plain (choices_of l)
   pub crate_reading : (choices_of l).reading ≡ Crate
-  pub lcp_id_lem : l.ppp.lcp.id < 256
+  pub lcp_id : l.ppp.lcp.id < 256
   pub ipv4cp_id : l.ppp.ipv4cp.id < 256
   pub pap_id : l.ppp.auth.pap.id < 256
   pub credentials : Bytes l.ppp.auth.credentials.bytes

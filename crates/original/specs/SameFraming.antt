@@ -31,14 +31,14 @@ fetch_of got.Nothing r = nothing r
 -- framing, each call as its contract has it: a writer lent what it counts, a reader in crate reading lent what it keeps, slices of bytes
 pub record SameFraming : Type 0 where
   pub check_value : (seed : ℕ) (bs : List ℕ) → Bytes bs → crc16 seed bs ≡ fcs seed bs
-  pub new_writer_lem : (m : ℕ) (buf : List ℕ) → view_writer (fresh_writer m) buf ≡ new_with_asyncmap buf m
+  pub new_writer : (m : ℕ) (buf : List ℕ) → view_writer (fresh_writer m) buf ≡ new_with_asyncmap buf m
   pub start-frame : (w : writer.FrameWriter) (buf : List ℕ) → w.len ≤ length buf → {o : framed.Outcome} {w' : writer.FrameWriter} {buf' : List ℕ}
       → Starts w buf o w' buf' → SameWrite (start (view_writer w buf)) o w' buf'
   pub append_bytes : (w : writer.FrameWriter) (buf : List ℕ) → w.len ≤ length buf → {o : framed.Outcome} {w' : writer.FrameWriter} {buf' : List ℕ} (bs : List ℕ) → Bytes bs
       → Appends bs w buf o w' buf' → SameWrite (append (view_writer w buf) bs) o w' buf'
   pub finish-frame : (w : writer.FrameWriter) (buf : List ℕ) → w.len ≤ length buf → {o : framed.Outcome} {w' : writer.FrameWriter} {buf' : List ℕ}
       → Finishes w buf o w' buf' → SameWrite (finish (view_writer w buf)) o w' buf'
-  pub new_reader_lem : view_reader (fresh_reader Crate) ≡ new_reader
+  pub new_reader : view_reader (fresh_reader Crate) ≡ new_reader
   pub consume_bytes : (r : reader.FrameReader) (buf bs : List ℕ) → r.reading ≡ Crate → r.len ≤ length buf → length buf < 2 ^ 64 → Bytes buf → Bytes bs
       → {o : framed.Outcome} {n : ℕ} {r' : reader.FrameReader} {buf' : List ℕ} → reading.Consumes (held r buf) bs o n r' buf'
       → (framing.outcome_number o ≡ 0) × (consume (view_reader r) buf bs ≡ returns (record { count = n; reader = view_reader r'; buf = buf' })) × (r'.reading ≡ Crate)

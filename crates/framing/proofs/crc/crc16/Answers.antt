@@ -1,5 +1,5 @@
 use mathlib.Core.Path.{◌≡◌, sym, subst, ◌∙◌}
-use Prim.Native.Nat.{ℕ, ◌<◌, ◌-◌, ◌^◌}
+use Prim.Native.Nat.{ℕ, ◌<◌, ◌^◌}
 use borrow.Author.Rules.{rules}
 use native.Mathlib.Omega.{arith}
 use Rattle.framing.specs.Rfc1662.{fcs}
@@ -9,7 +9,7 @@ use Rattle.framing.proofs.crc.crc16.Goals as goal
 pub loop-i-preserved : goal.loop-i-preserved
 loop-i-preserved c = (
   search rules,
-  fcs_turn _ _ c.loop-i.i c.args.src.now (omega arith) c.step-s.ensures c.loop-i.invariant.1,
+  fcs_turn _ _ c.loop-i.i c.args.src.now (omega arith) c.step_by_table-s.ensures c.loop-i.invariant.1,
 )
 
 pub overflow_cast-result : goal.overflow_cast-result

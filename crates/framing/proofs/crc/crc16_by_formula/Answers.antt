@@ -1,5 +1,4 @@
 use mathlib.Core.Path.{sym, ◌∙◌}
-use Prim.Native.Nat.{◌-◌}
 use borrow.Author.Rules.{rules}
 use native.Mathlib.Omega.{arith}
 use Rattle.framing.proofs.Fcs.{fcs_turn, fcs_end}
@@ -8,7 +7,7 @@ use Rattle.framing.proofs.crc.crc16_by_formula.Goals as goal
 pub loop-i-preserved : goal.loop-i-preserved
 loop-i-preserved c = (
   search rules,
-  fcs_turn _ _ c.loop-i.i c.args.src.now (omega arith) c.step_by_formula-s.ensures c.loop-i.invariant.1,
+  fcs_turn _ _ c.loop-i.i c.args.src.now (omega arith) c.step-s.ensures c.loop-i.invariant.1,
 )
 
 pub returns : goal.returns

@@ -3,7 +3,6 @@ use borrow.Author.Tests.{not-true, not-false}
 use Rattle.framing.specs.Rfc1662.{fcs}
 use Rattle.framing.specs.Writer.{units, finish_units}
 use Rattle.framing.proofs.Run.{run_stop, run_then, run_within}
-use borrow.Author.Rules.{rules}
 use Rattle.framing.proofs.encode.frame_at.Goals as goal
 
 pub returns-then-not-s : goal.returns-then-not-s
@@ -15,7 +14,7 @@ returns-then-not-s c =
 
 pub body_at-w-requires : goal.body_at-w-requires
 body_at-w-requires c =
-    (search rules, run_within c.start_at-s.ensures c.requires.1)
+    run_within c.start_at-s.ensures c.requires
 
 pub returns-then-not-w : goal.returns-then-not-w
 returns-then-not-w c =
@@ -25,7 +24,7 @@ returns-then-not-w c =
 
 pub finish_at-requires : goal.finish_at-requires
 finish_at-requires c =
-    run_within c.body_at-w.ensures.ran (run_within c.start_at-s.ensures c.requires.1)
+    run_within c.body_at-w.ensures.ran (run_within c.start_at-s.ensures c.requires)
 
 pub returns : goal.returns
 returns c =

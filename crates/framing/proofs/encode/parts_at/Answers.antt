@@ -1,7 +1,6 @@
 use borrow.Author.Tests.{not-true, not-false}
 use Rattle.framing.proofs.Run.{run_within}
 use Rattle.framing.proofs.Walking.{walked_stop, walked_then}
-use borrow.Author.Rules.{rules}
 use Rattle.framing.proofs.encode.parts_at.Goals as goal
 
 pub returns-then-not-w : goal.returns-then-not-w
@@ -10,7 +9,7 @@ returns-then-not-w c =
 
 pub walk-requires : goal.walk-requires
 walk-requires c =
-    (search rules, run_within c.walk-w.ensures.ran c.requires.1)
+    run_within c.walk-w.ensures.ran c.requires
 
 pub returns : goal.returns
 returns c =

@@ -1,10 +1,12 @@
 // What the C firmware calls; include/ppproto.h declares it.
+#![tactic(auto)]
+
 ghost use Rattle.std.specs.Prelude.{◌≡◌};
 ghost use Rattle.framing.specs.Rfc1662.{fcs};
 ghost use Rattle.framing.specs.Writer.{Lays};
 
-use crate::crc::crc16;
-use crate::encode::encode;
+use framing::crc::crc16;
+use framing::encode::encode;
 
 #[unsafe(no_mangle)]
 pub extern "C" fn ppp_crc16(seed: u16, src: &[u8]) -> u16
