@@ -1,7 +1,7 @@
 /*
  * PPP in HDLC-like framing (RFC 1662): the check value, and the frame of one packet.
  *
- * The functions are in the static library that `rt staticlib framing` makes, target/staticlib/libframing.a (x86-64). They allocate
+ * The functions are in the static library that `tests/c/library` makes, target/staticlib/libframing.a (x86-64). They allocate
  * nothing and keep nothing between calls, so calls on different buffers may run at the same time.
  *
  * Bytes are passed as a pointer and then their count. A count of 0 goes with any pointer, also NULL: nothing is read or written
