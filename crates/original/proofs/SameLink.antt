@@ -27,7 +27,7 @@ use Rattle.original.specs.Panics.{number_at, SamePoll, same, refuses, opens, unf
 use Rattle.original.proofs.Crc.{same-crc16}
 use Rattle.original.proofs.Writer.{same_start, same-append, same-finish}
 use Rattle.original.proofs.Reader.{complete_is, same-consume, same-receive}
-use Rattle.original.proofs.Calls.{new-fits, same_open, same-status, same_consume_link}
+use Rattle.original.proofs.Calls.{new_fits, same_open, same-status, same_consume_link}
 use Rattle.original.proofs.Link.{same-poll}
 use Rattle.original.proofs.Send.{same-send}
 
@@ -79,7 +79,7 @@ same_framing =
 pub same_link : SameLink
 same_link =
     record {
-      new = λ name password k _ crate h c. new-fits name password k c crate h;
+      new = λ name password k _ crate h c. new_fits name password k c crate h;
       «open» = same_open;
       status = same-status;
       consume = same_consume_link;
