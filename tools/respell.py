@@ -70,7 +70,7 @@ def renamed(name, defs):
     if len(parts) == 1:
         return parts[0]
     words = name.split("-")
-    known = lambda w: w in defs or snake(w) in defs or w in PLAIN
+    known = lambda w: bool(defs) and (w in defs or snake(w) in defs or w in PLAIN)
     for cut in range(1, len(words)):
         left, right = "-".join(words[:cut]), "-".join(words[cut:])
         if known(left) and known(right):
@@ -83,7 +83,7 @@ def table():
     turn = {n: n + "_lem" for n in TAKEN}
     for n in sorted(heads | fields):
         if "-" in n or re.search(r"[a-z0-9'][A-Z]", n) and n[0].islower():
-            to = renamed(n, defs)
+            to = renamed(n, defs if n in heads else set())
             if to != n:
                 turn[n] = to
     # a lemma that would have its definition's name

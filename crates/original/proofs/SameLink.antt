@@ -68,7 +68,7 @@ same_framing =
     record {
       check_value = same-crc16;
       new_writer = λ m buf. refl;
-      start-frame = same_start;
+      start_frame = same_start;
       append_bytes = same-append;
       finish-frame = same-finish;
       new_reader = refl;
