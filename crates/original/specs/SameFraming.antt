@@ -36,7 +36,7 @@ pub record SameFraming : Type 0 where
       → Starts w buf o w' buf' → SameWrite (start (view_writer w buf)) o w' buf'
   pub append_bytes : (w : writer.FrameWriter) (buf : List ℕ) → w.len ≤ length buf → {o : framed.Outcome} {w' : writer.FrameWriter} {buf' : List ℕ} (bs : List ℕ) → Bytes bs
       → Appends bs w buf o w' buf' → SameWrite (append (view_writer w buf) bs) o w' buf'
-  pub finish-frame : (w : writer.FrameWriter) (buf : List ℕ) → w.len ≤ length buf → {o : framed.Outcome} {w' : writer.FrameWriter} {buf' : List ℕ}
+  pub finish_frame : (w : writer.FrameWriter) (buf : List ℕ) → w.len ≤ length buf → {o : framed.Outcome} {w' : writer.FrameWriter} {buf' : List ℕ}
       → Finishes w buf o w' buf' → SameWrite (finish (view_writer w buf)) o w' buf'
   pub new_reader : view_reader (fresh_reader Crate) ≡ new_reader
   pub consume_bytes : (r : reader.FrameReader) (buf bs : List ℕ) → r.reading ≡ Crate → r.len ≤ length buf → length buf < 2 ^ 64 → Bytes buf → Bytes bs
