@@ -13,8 +13,7 @@ import sys
 
 WORD = r"[A-Za-z][A-Za-z0-9_'\-]*"
 TOKEN = re.compile(r"(?<![A-Za-z0-9_'\-])" + WORD)
-HEAD = re.compile(r"^(?:(?:abbrev|unfoldable|private) )*(?:pub )?(" + WORD + r")(?: *:| .*=|$)")
-FIELD = re.compile(r"^  (?:pub )?(" + WORD + r") :")
+CAMEL = re.compile(r"[a-z][a-z0-9_']*[A-Z][A-Za-z0-9_']*$")
 # lemmas that port.py turned to names which definitions take now
 TAKEN = ["goes_on", "got_number", "option_len", "plain_in", "size_back"]
 PLAIN = set("length drop take append map set get_or update replicate".split())
@@ -32,30 +31,37 @@ def snake(word):
     return re.sub(r"(?<=[a-z0-9'])([A-Z]+)(?=$|[^A-Za-z]|[A-Z]?[a-z0-9])", lambda m: "_" + m.group(1).lower(), word)
 
 
+def made(path):
+    """Whether the file is of one function's proof: the names that it declares at the margin are the check's own."""
+    return path.endswith(("/Proof.antt", "/Answers.antt", "/Invariants.antt"))
+
+
 def declared():
-    """The names that antt files declare: those at the margin with a signature, and fields of records."""
+    """The names that antt files declare: definitions and lemmas, also those in modules; fields of records; constructors and variables in camel case."""
     heads, fields, defs = set(), set(), set()
     for p in files(".antt"):
-        lines = open(p, encoding="utf-8").read().split("\n")
         inside = False
-        for line in lines:
-            if re.match(r"^(pub )?(record|data|enum) ", line):
+        for line in open(p, encoding="utf-8").read().split("\n"):
+            line = re.sub(r"(?:^|\s)--\s.*", "", line)
+            if re.match(r"^\s*(pub )?record ", line):
                 inside = True
                 continue
             if line and not line.startswith(" "):
                 inside = False
-            m = re.match(r"^(?:(?:abbrev|unfoldable|private) )*(?:pub )?(" + WORD + r") :", line)
-            if m and not re.search(r": \w*\.?(?:tie|goal|Need|Then)\b", line) and "tie." not in line.split(":")[1].split(" ")[1]:
-                heads.add(m.group(1))
-                if "/specs/" in p:
-                    defs.add(m.group(1))
-            m = FIELD.match(line)
-            if inside and m:
-                fields.add(m.group(1))
+            # the library and the check write no such name
+            heads.update(w for w in TOKEN.findall(line) if CAMEL.match(w))
+            m = re.match(r"^\s*(?:(?:abbrev|unfoldable|private|pub) )*(" + WORD + r") :", line)
+            if not m or made(p) and re.search(r" : (?:tie|goal)\.", line):
+                continue
+            (fields if inside else heads).add(m.group(1))
+            if "/specs/" in p and not inside:
+                defs.add(m.group(1))
     return heads, fields, defs
 
 
 def renamed(name, defs):
+    if name.endswith("-spec"):
+        return name[:-5].replace("-", "_") + "_spec"
     if name[0].isupper():
         # a type joined to a word keeps the type
         head, *rest = re.split(r"[-]", name)
@@ -64,7 +70,7 @@ def renamed(name, defs):
     if len(parts) == 1:
         return parts[0]
     words = name.split("-")
-    known = lambda w: w in defs or snake(w) in defs or w in PLAIN
+    known = lambda w: bool(defs) and (w in defs or snake(w) in defs or w in PLAIN)
     for cut in range(1, len(words)):
         left, right = "-".join(words[:cut]), "-".join(words[cut:])
         if known(left) and known(right):
@@ -77,7 +83,7 @@ def table():
     turn = {n: n + "_lem" for n in TAKEN}
     for n in sorted(heads | fields):
         if "-" in n or re.search(r"[a-z0-9'][A-Z]", n) and n[0].islower():
-            to = renamed(n, defs)
+            to = renamed(n, defs if n in heads else set())
             if to != n:
                 turn[n] = to
     # a lemma that would have its definition's name

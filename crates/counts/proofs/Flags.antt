@@ -31,39 +31,39 @@ use Rattle.framing.proofs.Stuffing.{stuffed_without}
 use Rattle.framing.proofs.Unstuffing.{control_on, control_length, stuffed-fields, unescaped-stuffed, aborted-stuffed, doubled-stuffed}
 use Rattle.framing.proofs.Inside.{inside, keeps, loses}
 use Rattle.framing.proofs.Good.{control_good}
-use Rattle.framing.proofs.Arrives.{idle-fresh, flag-read, arrives, arrives-heard}
+use Rattle.framing.proofs.Arrives.{idle-fresh, flag_read, arrives, arrives_heard}
 use Rattle.framing.proofs.Dropping.{together_none, none_together, missed-append}
 use Rattle.counts.specs.Counts.{judged, between, Usual, flag_met, fresh, frames_of, AllFit}
 
 -- ---- bytes that are no flags
 
 module _ (s : Held) (b : ℕ) (w : List ℕ) (e : full (step s b) ≡ false) where
-  missed-on : missed s (b ∷ w) ≡ together (one_drop (fault_at s b)) (missed (step s b) w)
+  missed_on : missed s (b ∷ w) ≡ together (one_drop (fault_at s b)) (missed (step s b) w)
   unfolding missed
-  missed-on = rw (fetched_none (step s b) e)
+  missed_on = rw (fetched_none (step s b) e)
 
-  heard-on : (heard s (b ∷ w)).now ≡ (heard (step s b) w).now
+  heard_on : (heard s (b ∷ w)).now ≡ (heard (step s b) w).now
   unfolding heard
-  heard-on = rw (fetched_none (step s b) e)
+  heard_on = rw (fetched_none (step s b) e)
 
 module _ (s : Held) (b : ℕ) (e : s.reader.state ≡ Start) where
-  start-counts : fault_at s b ≡ None
+  start_counts : fault_at s b ≡ None
   unfolding fault_at
-  start-counts = rw e
+  start_counts = rw e
 
-  start-stays : (b ≡ 0x7E → ⊥) → (step s b).reader.state ≡ Start
+  start_stays : (b ≡ 0x7E → ⊥) → (step s b).reader.state ≡ Start
   unfolding step
-  start-stays n = rw (e, ne_eqb b 0x7E n)
+  start_stays n = rw (e, ne_eqb b 0x7E n)
 
 -- from Start the reader stays there
 waits : (s : Held) (w : List ℕ) → s.reader.state ≡ Start → Without 0x7E w → (missed s w ≡ no_drops) × ((heard s w).now.reader.state ≡ Start)
 unfolding missed heard
 waits s [] e f = (refl, e)
 waits s (b ∷ w) e f =
-    let there = start-stays s b e f.0 in
+    let there = start_stays s b e f.0 in
     let g = waits (step s b) w there f.1 in (
-      missed-on s b w (ap is_complete there) ∙ ap₂ (λ (x : Fault) (d : Drops). together (one_drop x) d) (start-counts s b e) g.0,
-      ap (λ (t : Held). t.reader.state) (heard-on s b w (ap is_complete there)) ∙ g.1,
+      missed_on s b w (ap is_complete there) ∙ ap₂ (λ (x : Fault) (d : Drops). together (one_drop x) d) (start_counts s b e) g.0,
+      ap (λ (t : Held). t.reader.state) (heard_on s b w (ap is_complete there)) ∙ g.1,
     )
 
 -- a byte inside a frame is taken in silence, or it finds no room and the reader waits for a flag
@@ -95,8 +95,8 @@ in_bytes s (b ∷ w) e f =
     ⊎_elim
     (λ (t : Taken s b).
     let quiet = ap is_complete t.1 in
-    let first = missed-on s b w quiet ∙ ap (λ (x : Fault). together (one_drop x) (missed (step s b) w)) t.0 ∙ none_together (missed (step s b) w) in
-    let last = ap (λ (t : Held). t.reader.state) (heard-on s b w quiet) in
+    let first = missed_on s b w quiet ∙ ap (λ (x : Fault). together (one_drop x) (missed (step s b) w)) t.0 ∙ none_together (missed (step s b) w) in
+    let last = ap (λ (t : Held). t.reader.state) (heard_on s b w quiet) in
     ⊎_elim
     (λ (g : AllTaken (step s b) w). inl (first ∙ g.0, last ∙ g.1))
     (λ (g : AllLost (step s b) w). inr (first ∙ g.0, last ∙ g.1))
@@ -104,7 +104,7 @@ in_bytes s (b ∷ w) e f =
     (λ (t : Lost s b).
     let quiet = ap is_complete t.1 in
     let g = waits (step s b) w t.1 f.1 in
-    inr (missed-on s b w quiet ∙ ap₂ (λ (x : Fault) (d : Drops). together (one_drop x) d) t.0 g.0, ap (λ (t : Held). t.reader.state) (heard-on s b w quiet) ∙ g.1))
+    inr (missed_on s b w quiet ∙ ap₂ (λ (x : Fault) (d : Drops). together (one_drop x) d) t.0 g.0, ap (λ (t : Held). t.reader.state) (heard_on s b w quiet) ∙ g.1))
     (in_byte s b e f.0)
 
 -- ---- an address, bytes that are no flags, and the closing flag
@@ -131,52 +131,52 @@ closing k a l buf e h =
     together_none (one_drop (fault_at (inside k a (length l) (sets buf 0 l)) 0x7E))
     ∙ rw (e, rw zero-add at (take_sets l buf 0 (simp zero-add h)), fault_judged l)
 
-module _ (k : Reading) (buf w : List ℕ) (noFlag : Without 0x7E w) (usual : Usual k w) where
+module _ (k : Reading) (buf w : List ℕ) (no_flag : Without 0x7E w) (usual : Usual k w) where
   abbrev l : List ℕ
   l = unescaped false w
 
   abbrev s : Held
   s = inside k false 0 buf
 
-  noDouble : is_crate k && doubled false w ≡ false
-  noDouble = (neither (is_crate k) (aborted false w) (doubled false w) usual).1
+  no_double : is_crate k && doubled false w ≡ false
+  no_double = (neither (is_crate k) (aborted false w) (doubled false w) usual).1
 
   -- behind the address
   entered : missed (flag_met k buf) ((0xFF ∷ w) ++ (0x7E ∷ [])) ≡ together (missed s w) (missed (heard s w).now (0x7E ∷ []))
   unfolding missed step fault_at heard
   entered = none_together (missed s (w ++ (0x7E ∷ []))) ∙ missed-append s w (0x7E ∷ [])
 
-  heard-at : {t : Held} → Quiet step full s w t → (heard s w).now ≡ t
+  heard_at : {t : Held} → Quiet step full s w t → (heard s w).now ≡ t
   unfolding heard
-  heard-at {t} q = ap (λ (r : Heard). r.now) (ap (heard s) (sym (append-nil w)) ∙ heard_quiet q [])
+  heard_at {t} q = ap (λ (r : Heard). r.now) (ap (heard s) (sym (append-nil w)) ∙ heard_quiet q [])
 
   fits : length l ≤ length buf → missed (flag_met k buf) ((0xFF ∷ w) ++ (0x7E ∷ [])) ≡ one_drop (cond (aborted false w) Aborted (judged l))
   fits h =
-      let at = heard-at (simp zero-add at (keeps k false w 0 buf noFlag noDouble (simp zero-add h))) in
+      let at = heard_at (simp zero-add at (keeps k false w 0 buf no_flag no_double (simp zero-add h))) in
       ⊎_elim
       (λ (g : AllTaken s w).
       entered ∙ ap₂ (λ (d : Drops) (t : Held). together d (missed t (0x7E ∷ []))) g.0 at
       ∙ none_together (missed (inside k (aborted false w) (length l) (sets buf 0 l)) (0x7E ∷ []))
       ∙ closing k (aborted false w) l buf (aborts_usual k (aborted false w) (doubled false w) usual) h)
       (λ (g : AllLost s w). let e : Data ≡ Start = sym (ap (λ (t : Held). t.reader.state) at) ∙ g.1 in apart cc)
-      (in_bytes s w refl noFlag)
+      (in_bytes s w refl no_flag)
 
-  runs-out : length buf < length l → missed (flag_met k buf) ((0xFF ∷ w) ++ (0x7E ∷ [])) ≡ one_drop Overrun
+  runs_out : length buf < length l → missed (flag_met k buf) ((0xFF ∷ w) ++ (0x7E ∷ [])) ≡ one_drop Overrun
   unfolding missed
-  runs-out h =
-      let r = loses k false w 0 buf noFlag noDouble (omega arith) (simp zero-add h) in
-      let at = ap (λ (t : Held). t.reader.state) (heard-at r.quiet) in
+  runs_out h =
+      let r = loses k false w 0 buf no_flag no_double (omega arith) (simp zero-add h) in
+      let at = ap (λ (t : Held). t.reader.state) (heard_at r.quiet) in
       ⊎_elim
       (λ (g : AllTaken s w). let e : Start ≡ Data = sym at ∙ g.1 in apart cc)
       (λ (g : AllLost s w).
-      entered ∙ ap₂ (λ (d : Drops) (x : Fault). together d (together (one_drop x) no_drops)) g.0 (start-counts (heard s w).now 0x7E g.1))
-      (in_bytes s w refl noFlag)
+      entered ∙ ap₂ (λ (d : Drops) (x : Fault). together d (together (one_drop x) no_drops)) g.0 (start_counts (heard s w).now 0x7E g.1))
+      (in_bytes s w refl no_flag)
 
   pub flags : missed (flag_met k buf) ((0xFF ∷ w) ++ (0x7E ∷ [])) ≡ one_drop (between (length buf) w)
   flags =
       by_le (length l) (length buf)
       (λ h. rw (le-ltb (length buf) (length l) h) (fits h))
-      (λ h. rw (lt-ltb (length buf) (length l) h) (runs-out h))
+      (λ h. rw (lt-ltb (length buf) (length l) h) (runs_out h))
 
 -- ---- encoded frames
 
@@ -202,7 +202,7 @@ frame_silent s m p i h =
     let none : between (length s.buf) w ≡ None =
     rw (unescaped-stuffed m (control_on p), aborted-stuffed m (control_on p), le-ltb (length s.buf) (length (control_on p)) (omega (arith, control_length p)))
     (sym (fault_judged (control_on p)) ∙ good_none (fault_in (control_on p)) (control_good p)) in
-    rw (flag-read i, flag_counts s i, stuffed-fields m p)
+    rw (flag_read i, flag_counts s i, stuffed-fields m p)
     (none_together (missed (flag_met k s.buf) ((0xFF ∷ w) ++ (0x7E ∷ []))) ∙ flags k s.buf w (stuffed_without m (control_on p)) clean ∙ ap one_drop none)
 
 fetched_room : (s : Held) → length (fetched_in s).buf ≡ length s.buf
@@ -214,7 +214,7 @@ idle_silent s [] i h = refl
 idle_silent s (p ∷ ps) i h =
     let a = arrives s p.0 p.1 i h.0 in
     let t = step a.before a.last in
-    let next = ap (λ (r : Heard). r.now) (arrives-heard a) in
+    let next = ap (λ (r : Heard). r.now) (arrives_heard a) in
     let rest = idle_silent (fetched_in t) ps a.idle (rw (fetched_room t, a.same_room) h.1) in
     missed-append s (frame p.0 p.1) (frames_of ps)
     ∙ ap₂ together (frame_silent s p.0 p.1 i h.0) (ap (λ (t : Held). missed t (frames_of ps)) next ∙ rest)

@@ -49,8 +49,8 @@ out : (s : Held) (b : ℕ) → Kept s b → (Room s → ⊥) → Told s b (one_d
 out s b k r = no_end s b 1 (λ p. k.1 p.1) (yes (k, r))
 
 module _ (s : Held) (b : ℕ) (e : FrameEnd s b) where
-  kept-not : {P : Type 0} → Kept s b × P → ⊥
-  kept-not p = p.0.1 e.1
+  kept_not : {P : Type 0} → Kept s b × P → ⊥
+  kept_not p = p.0.1 e.1
 
   aborted-told : EscapeOpen s → Told s b (one_drop Aborted)
   aborted-told a =
@@ -59,50 +59,50 @@ module _ (s : Held) (b : ℕ) (e : FrameEnd s b) where
         short = no_one (λ p. p.1 a);
         control = no_one (λ p. p.1 a);
         check = no_one (λ p. p.1 a);
-        overrun = no_one kept-not;
+        overrun = no_one kept_not;
       }
 
   module _ (a : EscapeOpen s → ⊥) where
-    short-told : Few s → Told s b (one_drop Short)
-    short-told f =
+    short_told : Few s → Told s b (one_drop Short)
+    short_told f =
         record {
           aborted = no_one (λ p. a p.1);
           short = yes (e, a, f);
           control = no_one (λ p. p.2 f);
           check = no_one (λ p. p.2 f);
-          overrun = no_one kept-not;
+          overrun = no_one kept_not;
         }
 
     module _ (f : Few s → ⊥) where
-      control-told : (Begins s → ⊥) → Told s b (one_drop Control)
-      control-told c =
+      control_told : (Begins s → ⊥) → Told s b (one_drop Control)
+      control_told c =
           record {
             aborted = no_one (λ p. a p.1);
             short = no_one (λ p. f p.2);
             control = yes (e, a, f, c);
             check = no_one (λ p. c p.3);
-            overrun = no_one kept-not;
+            overrun = no_one kept_not;
           }
 
       module _ (c : Begins s) where
-        check-told : (Checks s → ⊥) → Told s b (one_drop Check)
-        check-told k =
+        check_told : (Checks s → ⊥) → Told s b (one_drop Check)
+        check_told k =
             record {
               aborted = no_one (λ p. a p.1);
               short = no_one (λ p. f p.2);
               control = no_one (λ p. p.3 c);
               check = yes (e, a, f, c, k);
-              overrun = no_one kept-not;
+              overrun = no_one kept_not;
             }
 
-        good-told : Checks s → Told s b no_drops
-        good-told k =
+        good_told : Checks s → Told s b no_drops
+        good_told k =
             record {
               aborted = no_one (λ p. a p.1);
               short = no_one (λ p. f p.2);
               control = no_one (λ p. p.3 c);
               check = no_one (λ p. p.4 k);
-              overrun = no_one kept-not;
+              overrun = no_one kept_not;
             }
 
 -- ---- which of them it is
@@ -127,16 +127,16 @@ ended-told s b e =
     (λ t.
     let a = abort_not s.reader.escape s.reader.reading t in
     by_test (ltb (length l) 3)
-    (λ u. rw (t, u) (short-told s b e a (ltb-true (length l) 3 u)))
+    (λ u. rw (t, u) (short_told s b e a (ltb-true (length l) 3 u)))
     (λ u.
     let f : Few s → ⊥ = λ h. omega (arith, h, ltb-false (length l) 3 u) in
     by_test (eqb (get_or l 0 0) 0x03)
     (λ v.
     let c = eqb-true (get_or l 0 0) 0x03 v in
     by_test (eqb (fcs 0x00FF l) 0xF0B8)
-    (λ w. rw (t, u, v, w) (good-told s b e a f c (eqb-true (fcs 0x00FF l) 0xF0B8 w)))
-    (λ w. rw (t, u, v, w) (check-told s b e a f c (eqb-false (fcs 0x00FF l) 0xF0B8 w))))
-    (λ v. rw (t, u, v) (control-told s b e a f (eqb-false (get_or l 0 0) 0x03 v)))))
+    (λ w. rw (t, u, v, w) (good_told s b e a f c (eqb-true (fcs 0x00FF l) 0xF0B8 w)))
+    (λ w. rw (t, u, v, w) (check_told s b e a f c (eqb-false (fcs 0x00FF l) 0xF0B8 w))))
+    (λ v. rw (t, u, v) (control_told s b e a f (eqb-false (get_or l 0 0) 0x03 v)))))
 
 marks_by : (b : ℕ) (e : Bool) (k : Reading) → eqb b 0x7D && (not e || is_crate k) ≡ false → b ≡ 0x7D → (k ≡ Standard) × (e ≡ true)
 marks_by b true Standard t p = (refl, refl)

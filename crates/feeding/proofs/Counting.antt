@@ -13,7 +13,7 @@ use Rattle.framing.specs.Reader.{Held, step, full, Fed, fed, consumed}
 use Rattle.framing.specs.Heard.{fetched_in}
 use Rattle.framing.specs.Drops.{no_drops, together, drops, missed}
 use Rattle.framing.specs.declared.drops.Drops.{Drops}
-use Rattle.framing.proofs.Reader.{Kept, Alike, full_alike, fed-kept, fed_stop, fed-step, fed_left_le, consumed-fed}
+use Rattle.framing.proofs.Reader.{Kept, Alike, full_alike, fed_kept, fed_stop, fed-step, fed_left_le, consumed-fed}
 use Rattle.framing.proofs.Heard.{fetched_kept, fetched_none, fetched_open}
 use Rattle.framing.proofs.Dropping.{together_none, none_together, together_assoc, drops_stop, dropped-drops, missed_nil, missed-fed, missed_alike}
 use Rattle.link.specs.Frames.{always_enough}
@@ -38,37 +38,37 @@ module _ (p : Progress) (h : Lent p) where
   abbrev s : Held
   s = reader_of p
 
-  turn-left : (one_turn p).left ≡ (fed s p.left).left
+  turn_left : (one_turn p).left ≡ (fed s p.left).left
   unfolding one_turn
-  turn-left = rw (consumed-fed s p.left h.within)
+  turn_left = rw (consumed-fed s p.left h.within)
 
-  turn-drops : (one_turn p).drops ≡ together p.drops (drops s p.left)
+  turn_drops : (one_turn p).drops ≡ together p.drops (drops s p.left)
   unfolding one_turn
-  turn-drops = rw (dropped-drops s p.left h.within)
+  turn_drops = rw (dropped-drops s p.left h.within)
 
   room : Kept (length p.rx) (fed s p.left).now
-  room = fed-kept (length p.rx) s p.left (record { room = refl; within = h.within })
+  room = fed_kept (length p.rx) s p.left (record { room = refl; within = h.within })
 
   -- its poll fetches what its consume completed
-  turn-fetches : Alike (reader_of (one_turn p)) (fetched_in (fed s p.left).now)
+  turn_fetches : Alike (reader_of (one_turn p)) (fetched_in (fed s p.left).now)
   unfolding one_turn
-  turn-fetches =
+  turn_fetches =
       rw (consumed-fed s p.left h.within)
       (poll-fetches (link_of (fed s p.left).now.reader p.link.ppp) p.tx (fed s p.left).now.buf (omega (arith, room.room, room.within)) h.enough)
 
-  turn-open : full (reader_of (one_turn p)) ≡ false
-  turn-open = full_alike (reader_of (one_turn p)) (fetched_in (fed s p.left).now) turn-fetches ∙ fetched_open (fed s p.left).now
+  turn_open : full (reader_of (one_turn p)) ≡ false
+  turn_open = full_alike (reader_of (one_turn p)) (fetched_in (fed s p.left).now) turn_fetches ∙ fetched_open (fed s p.left).now
 
-  turn-long : length (one_turn p).tx ≡ length p.tx
+  turn_long : length (one_turn p).tx ≡ length p.tx
   unfolding one_turn
-  turn-long = poll-long (link_of (consumed s p.left).now.reader p.link.ppp) p.tx (consumed s p.left).now.buf
+  turn_long = poll-long (link_of (consumed s p.left).now.reader p.link.ppp) p.tx (consumed s p.left).now.buf
 
-  turn-lent : Lent (one_turn p)
-  turn-lent =
+  turn_lent : Lent (one_turn p)
+  turn_lent =
       let k = fetched_kept (length p.rx) (fed s p.left).now room in
       record {
-        within = rw turn-fetches.same_reader (omega (arith, turn-fetches.same_room, k.room, k.within));
-        enough = rw turn-long h.enough;
+        within = rw turn_fetches.same_reader (omega (arith, turn_fetches.same_room, k.room, k.within));
+        enough = rw turn_long h.enough;
       }
 
 -- ---- what is counted, and what is still to be counted, stays the same
@@ -82,14 +82,14 @@ turn_total p h =
     let t = reader_of p in
     let f = fed t p.left in
     let rest : missed (fetched_in (reader_of q)) q.left ≡ missed (fetched_in f.now) f.left =
-    ap (λ (x : Held). missed x q.left) (fetched_none (reader_of q) (turn-open p h))
-    ∙ missed_alike (reader_of q) (fetched_in f.now) q.left (turn-fetches p h)
-    ∙ ap (missed (fetched_in f.now)) (turn-left p h) in
+    ap (λ (x : Held). missed x q.left) (fetched_none (reader_of q) (turn_open p h))
+    ∙ missed_alike (reader_of q) (fetched_in f.now) q.left (turn_fetches p h)
+    ∙ ap (missed (fetched_in f.now)) (turn_left p h) in
     let same : together (drops t p.left) (missed (fetched_in f.now) f.left) ≡ missed (fetched_in t) p.left =
     by_test (full t)
     (λ e. rw (drops_stop t p.left e, fed_stop t p.left e) (none_together (missed (fetched_in t) p.left)))
     (λ e. sym (missed-fed t p.left e) ∙ ap (λ (x : Held). missed x p.left) (sym (fetched_none t e))) in
-    ap₂ together (turn-drops p h) rest
+    ap₂ together (turn_drops p h) rest
     ∙ together_assoc p.drops (drops t p.left) (missed (fetched_in f.now) f.left)
     ∙ ap (together p.drops) same
 
@@ -127,10 +127,10 @@ runs (suc k) idle p h e i m =
     by_le 1 (length p.left)
     (λ some.
     let q = one_turn p in
-    let less : length q.left < length p.left = rw (turn-left p h) (shorter (reader_of p) p.left e some) in
+    let less : length q.left < length p.left = rw (turn_left p h) (shorter (reader_of p) p.left e some) in
     let took : eqb (length p.left - length q.left) 0 ≡ false = ne_eqb (length p.left - length q.left) 0 (λ z. omega arith) in
     let on = goes_on_lem idle p some i k refl in
-    rw (← on, ← turn_total p h, took) (runs k 0 q (turn-lent p h) (turn-open p h) (omega arith) (omega arith)))
+    rw (← on, ← turn_total p h, took) (runs k 0 q (turn_lent p h) (turn_open p h) (omega arith) (omega arith)))
     (λ none. done (suc k) idle p none)
 
 -- a frame that is complete before the first turn is fetched by that turn's poll
@@ -139,10 +139,10 @@ waits k p h e m =
     by_le 1 (length p.left)
     (λ some.
     let q = one_turn p in
-    let same : q.left ≡ p.left = turn-left p h ∙ ap (λ (f : Fed). f.left) (fed_stop (reader_of p) p.left e) in
+    let same : q.left ≡ p.left = turn_left p h ∙ ap (λ (f : Fed). f.left) (fed_stop (reader_of p) p.left e) in
     let took : eqb (length p.left - length q.left) 0 ≡ true = rw same (eq-eqb (length p.left - length p.left) 0 (omega arith)) in
     let on = goes_on_lem 0 p some (omega arith) k refl in
-    rw (← on, ← turn_total p h, took) (runs k 1 q (turn-lent p h) (turn-open p h) (omega arith) (rw same m)))
+    rw (← on, ← turn_total p h, took) (runs k 1 q (turn_lent p h) (turn_open p h) (omega arith) (rw same m)))
     (λ none. done (suc k) 0 p none)
 
 -- what a feed counts is what the reader counts over all of its bytes, wherever the calls part them

@@ -126,10 +126,10 @@ module _ (src : List ℕ) (at : ℕ) where
   fits d h k l = omega (arith, ap length (rest src at), length-drop at src)
 
   -- no more is dropped than is taken
-  pub still-few : {n : ℕ} {l' : PPPoS} {d' : Drops} {tx' rx' : List ℕ} (l : PPPoS) (tx rx : List ℕ) (d : Drops) → all_of d ≤ at
+  pub still_few : {n : ℕ} {l' : PPPoS} {d' : Drops} {tx' rx' : List ℕ} (l : PPPoS) (tx rx : List ℕ) (d : Drops) → all_of d ≤ at
       → Feeds (one_turn (progress_of l tx rx (take (length src - at) (drop at src)) d)) (take (length src - at) (drop at src)) n l' d' tx' rx'
       → all_of d' ≤ at + n
-  still-few l tx rx d h f =
+  still_few l tx rx d h f =
       rw (f.drops, f.count) (omega (arith, turn_most (progress_of l tx rx (take (length src - at) (drop at src)) d)))
 
   pub finished : {idle : ℕ} {l : PPPoS} {d : Drops} {tx rx : List ℕ} {end : Progress} → at ≤ length src → (at < length src → 2 ≤ idle)

@@ -11,7 +11,7 @@ use lib.ListN.{length}
 use lib.Seq.{sets, length-sets}
 use Rattle.laws.specs.Each.{Without}
 use Rattle.laws.specs.Quiet.{Quiet}
-use Rattle.laws.proofs.Quiet.{quiet_step, quiet-last}
+use Rattle.laws.proofs.Quiet.{quiet_step, quiet_last}
 use Rattle.framing.specs.Rfc1662.{unescaped, aborted, fields, stuffed, frame}
 use Rattle.framing.specs.Reader.{is_crate, is_complete, fresh_reader, next, moved, Held, held, step, full, packet_of, fed}
 use Rattle.framing.specs.Heard.{fetched_in, Heard, heard}
@@ -39,8 +39,8 @@ pub idle_waiting : (k : Reading) (buf : List ℕ) → Idle (waiting k buf)
 idle_waiting k buf = record { between = inr refl; clear = refl; empty = refl }
 
 module _ {s : Held} (idle : Idle s) where
-  pub idle-empty : full s ≡ false
-  idle-empty = ⊎_elim (λ e. ap is_complete e) (λ e. ap is_complete e) idle.between
+  pub idle_empty : full s ≡ false
+  idle_empty = ⊎_elim (λ e. ap is_complete e) (λ e. ap is_complete e) idle.between
 
   pub starts : s.reader.state ≡ Start → s ≡ held (fresh_reader s.reader.reading) s.buf
   starts e = λ i. held (next s.reader (e i) (idle.clear i) (idle.empty i)) s.buf
@@ -49,9 +49,9 @@ module _ {s : Held} (idle : Idle s) where
   waits e = λ i. held (next s.reader (e i) (idle.clear i) (idle.empty i)) s.buf
 
   -- a flag, from either state
-  pub flag-read : step s 0x7E ≡ waiting s.reader.reading s.buf
+  pub flag_read : step s 0x7E ≡ waiting s.reader.reading s.buf
   unfolding step
-  flag-read = ⊎_elim (λ e. ap (λ t. step t 0x7E) (starts e)) (λ e. ap (λ t. step t 0x7E) (waits e)) idle.between
+  flag_read = ⊎_elim (λ e. ap (λ t. step t 0x7E) (starts e)) (λ e. ap (λ t. step t 0x7E) (waits e)) idle.between
 
 -- ---- the bytes behind a flag
 
@@ -60,16 +60,16 @@ unfolding step
 address k buf = refl
 
 -- an address, then w with no flag in it
-module _ (k : Reading) (buf w : List ℕ) (noFlag : Without 0x7E w) (noDouble : is_crate k && doubled false w ≡ false) where
+module _ (k : Reading) (buf w : List ℕ) (no_flag : Without 0x7E w) (no_double : is_crate k && doubled false w ≡ false) where
   pub enters : length (unescaped false w) ≤ length buf
       → Quiet step full (waiting k buf) (0xFF ∷ w) (inside k (aborted false w) (length (unescaped false w)) (sets buf 0 (unescaped false w)))
   enters h =
       quiet_step step full (inside k false 0 buf) refl (address k buf)
-      (simp zero-add at (keeps k false w 0 buf noFlag noDouble (simp zero-add h)))
+      (simp zero-add at (keeps k false w 0 buf no_flag no_double (simp zero-add h)))
 
   -- off which a good frame is read
   pub lands : (p : List ℕ) → aborted false w ≡ false → unescaped false w ≡ control_on p → length p + 3 ≤ length buf → Arrives (waiting k buf) ((0xFF ∷ w) ++ (0x7E ∷ [])) p
-  lands p noAbort u h =
+  lands p no_abort u h =
       let fits : length (control_on p) ≤ length buf = omega (arith, control_length p) in
       let c = closes k (control_on p) buf fits (control_good p) in
       record {
@@ -77,7 +77,7 @@ module _ (k : Reading) (buf w : List ℕ) (noFlag : Without 0x7E w) (noDouble : 
         last = 0x7E;
         before = inside k false (length (control_on p)) (sets buf 0 (control_on p));
         whole = refl;
-        quiet = rw (noAbort, u) at (enters (rw u fits));
+        quiet = rw (no_abort, u) at (enters (rw u fits));
         filled = ap full c;
         kept = ap (λ (t : Held). t.reader.len) c ∙ control_length p;
         packet = ap packet_of c ∙ control_packet k p buf h;
@@ -96,7 +96,7 @@ opened s w p i a =
       last = a.last;
       before = a.before;
       whole = ap (λ l. 0x7E ∷ l) a.whole;
-      quiet = quiet_step step full (waiting s.reader.reading s.buf) (idle-empty i) (flag-read i) a.quiet;
+      quiet = quiet_step step full (waiting s.reader.reading s.buf) (idle_empty i) (flag_read i) a.quiet;
       filled = a.filled;
       kept = a.kept;
       packet = a.packet;
@@ -124,17 +124,17 @@ fed_last s b r e f = rw e (fed_stop (step s b) r f)
 
 module _ {s : Held} {w p : List ℕ} (a : Arrives s w p) where
   -- one packet is heard, and the reader is between frames again
-  pub arrives-heard : heard s w ≡ record { now = fetched_in (step a.before a.last); packets = p ∷ [] }
-  arrives-heard =
+  pub arrives_heard : heard s w ≡ record { now = fetched_in (step a.before a.last); packets = p ∷ [] }
+  arrives_heard =
       ap (heard s) a.whole ∙ heard_quiet a.quiet (a.last ∷ []) ∙ heard_last a.before a.last a.filled
       ∙ ap (λ x. record { now = fetched_in (step a.before a.last); packets = x ∷ [] }) a.packet
 
   -- one call consumes the frame and nothing behind it
-  pub arrives-fed : (rest : List ℕ) → fed s (w ++ rest) ≡ record { now = step a.before a.last; left = rest }
-  arrives-fed rest =
+  pub arrives_fed : (rest : List ℕ) → fed s (w ++ rest) ≡ record { now = step a.before a.last; left = rest }
+  arrives_fed rest =
       rw (a.whole, append_assoc a.body (a.last ∷ []) rest, fed_quiet a.quiet (a.last ∷ rest))
-      (fed_last a.before a.last rest (quiet-last step full a.quiet) a.filled)
+      (fed_last a.before a.last rest (quiet_last step full a.quiet) a.filled)
 
 -- a fresh reader reads a frame back
 pub reads_back : (k : Reading) (m : ℕ) (p buf : List ℕ) → length p + 3 ≤ length buf → (heard (held (fresh_reader k) buf) (frame m p)).packets ≡ p ∷ []
-reads_back k m p buf h = ap (λ (r : Heard). r.packets) (arrives-heard (arrives (held (fresh_reader k) buf) m p (idle-fresh k buf) h))
+reads_back k m p buf h = ap (λ (r : Heard). r.packets) (arrives_heard (arrives (held (fresh_reader k) buf) m p (idle-fresh k buf) h))

@@ -50,31 +50,31 @@ flipped_high m b e = escaped_cases m b e (λ l. omega (arith, flip_low b l)) (λ
 -- ---- what is sent with the map m, to a receiver whose map n flags no byte but those that m flags
 
 module _ (m n : ℕ) (within : (b : ℕ) → flagged m b ≡ false → flagged n b ≡ false) where
-  unit-unflagged : (b : ℕ) → Unflagged n (unit m b)
-  unit-unflagged b =
+  unit_unflagged : (b : ℕ) → Unflagged n (unit m b)
+  unit_unflagged b =
       by_test (escaped m b)
       (λ e. rw (unit-escaped m b e) (high_unflagged n 0x7D (omega arith), (high_unflagged n (bit_xor b 0x20) (flipped_high m b e), tt)))
       (λ e. rw (unit_plain m b e) (within b (plain_unflagged m b e), tt))
 
-  stuffed-unflagged : (bs : List ℕ) → Unflagged n (stuffed m bs)
+  stuffed_unflagged : (bs : List ℕ) → Unflagged n (stuffed m bs)
   unfolding stuffed
-  stuffed-unflagged [] = tt
-  stuffed-unflagged (b ∷ bs) = each_append (λ x. flagged n x ≡ false) (unit m b) (stuffed m bs) (unit-unflagged b) (stuffed-unflagged bs)
+  stuffed_unflagged [] = tt
+  stuffed_unflagged (b ∷ bs) = each_append (λ x. flagged n x ≡ false) (unit m b) (stuffed m bs) (unit_unflagged b) (stuffed_unflagged bs)
 
-  frame-unflagged : (p : List ℕ) → Unflagged n (frame m p)
+  frame_unflagged : (p : List ℕ) → Unflagged n (frame m p)
   unfolding frame
-  frame-unflagged p =
+  frame_unflagged p =
       let flag = high_unflagged n 0x7E (omega arith) in
-      (flag, each_append (λ x. flagged n x ≡ false) (stuffed m (fields p)) (0x7E ∷ []) (stuffed-unflagged (fields p)) (flag, tt))
+      (flag, each_append (λ x. flagged n x ≡ false) (stuffed m (fields p)) (0x7E ∷ []) (stuffed_unflagged (fields p)) (flag, tt))
 
-  carried-within : (p : List ℕ) → Carries n (stuffed m (fields p)) p
-  carried-within p =
-      let same = removed_none n (stuffed m (fields p)) (stuffed-unflagged (fields p)) in
+  carried_within : (p : List ℕ) → Carries n (stuffed m (fields p)) p
+  carried_within p =
+      let same = removed_none n (stuffed m (fields p)) (stuffed_unflagged (fields p)) in
       record { whole = rw same (aborted-stuffed m (fields p)); read = rw same (unescaped-stuffed m (fields p)) }
 
 -- RFC 1662's receiver with the sender's map reads the packet
 pub carried : (m : ℕ) (p : List ℕ) → Carries m (stuffed m (fields p)) p
-carried m = carried-within m m (λ b e. e)
+carried m = carried_within m m (λ b e. e)
 
 full_within : (n b : ℕ) → flagged 0xFFFF_FFFF b ≡ false → flagged n b ≡ false
 unfolding flagged bit
@@ -82,7 +82,7 @@ full_within n b e = by_le 0x20 b (high_unflagged n b) (λ h. absurd (subst T e (
 
 -- and so does one with any map, where the sender's is full
 pub carried_full : (n : ℕ) (p : List ℕ) → Carries n (stuffed 0xFFFF_FFFF (fields p)) p
-carried_full n = carried-within 0xFFFF_FFFF n (full_within n)
+carried_full n = carried_within 0xFFFF_FFFF n (full_within n)
 
 -- ---- what is written where the frame does not fit
 
@@ -97,5 +97,5 @@ fit_each P (u ∷ us) room h =
 -- no byte that the sender's map flags, whatever the room
 pub laid_unflagged : (m : ℕ) (p : List ℕ) (room : ℕ) → Unflagged m (laid m p room)
 laid_unflagged m p room =
-    let whole = frame-unflagged m m (λ b e. e) p in
+    let whole = frame_unflagged m m (λ b e. e) p in
     cond_all (Unflagged m) (holds m p room) whole (fit_each (λ x. flagged m x ≡ false) (frame_units m p) room (rw (join-frame m p) whole))

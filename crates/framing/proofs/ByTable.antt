@@ -8,7 +8,7 @@ use lib.Dec.{eqb, eqb→eq}
 use lib.ListN.{get_or, length}
 use lib.Bits.{bit_xor, xor_mod}
 use Rattle.laws.specs.Each.{Bytes}
-use Rattle.laws.proofs.Below.{each-entry}
+use Rattle.laws.proofs.Below.{each_entry}
 use Rattle.framing.specs.Rfc1662.{fcs, fcs_byte}
 use Rattle.framing.specs.Table.{by_formula, by_table, register, Table, BothWays}
 use Rattle.framing.proofs.Fcs.{fcs_index_lt}
@@ -34,14 +34,14 @@ bit_by_bit s (b ∷ bs) = bit_by_bit (fcs_byte s b) bs
 
 module _ (t : List ℕ) (whole : Table t) where
   -- each byte has its entry
-  pub table-inside : (x : ℕ) → x % 256 < length t
+  pub table_inside : (x : ℕ) → x % 256 < length t
   unfolding Table
-  table-inside x = omega (arith, whole.0)
+  table_inside x = omega (arith, whole.0)
 
   -- the whole-table test, at one entry
   entry : (k : ℕ) → k < 256 → get_or t k 0 ≡ by_formula 0 k
   unfolding Table
-  entry k h = eqb→eq (get_or t k 0) (by_formula 0 k) (each-entry (λ i x. eqb x (by_formula 0 i)) 0 t whole.1 k (omega (arith, whole.0, h)))
+  entry k h = eqb→eq (get_or t k 0) (by_formula 0 k) (each_entry (λ i x. eqb x (by_formula 0 i)) 0 t whole.1 k (omega (arith, whole.0, h)))
 
   byte : (s b : ℕ) → b < 256 → by_table t s b ≡ by_formula s b
   byte s b h =

@@ -21,24 +21,24 @@ use Rattle.framing.specs.declared.frame_reader.Got.{Got}
 -- ---- one frame's end
 
 module _ (r : FrameReader) (standard : r.reading ≡ Standard) where
-  escape-cleared : escape_after r ≡ false
-  escape-cleared = rw standard (and-false r.escape)
+  escape_cleared : escape_after r ≡ false
+  escape_cleared = rw standard (and-false r.escape)
 
-  escape-aborts : aborts r ≡ r.escape
-  escape-aborts = ap (λ (k : Reading). r.escape && not (is_crate k)) standard ∙ and-true r.escape
+  escape_aborts : aborts r ≡ r.escape
+  escape_aborts = ap (λ (k : Reading). r.escape && not (is_crate k)) standard ∙ and-true r.escape
 
-  good-ends : (buf : List ℕ) → is_good (fault_of r buf) ≡ ends_good (held r buf)
-  good-ends buf = rw escape-aborts (by_test r.escape (λ e. rw e) (λ e. rw e))
+  good_ends : (buf : List ℕ) → is_good (fault_of r buf) ≡ ends_good (held r buf)
+  good_ends buf = rw escape_aborts (by_test r.escape (λ e. rw e) (λ e. rw e))
 
   end_clean : (buf : List ℕ) → EndsClean (held r buf) (held (ended r buf) buf)
   end_clean buf =
       cond_by (λ (t : FrameReader). EndsClean (held r buf) (held t buf)) (is_good (fault_of r buf))
       (λ g.
-      let w = sym (good-ends buf) ∙ g in
-      record { state = rw w; kept = rw w; cleared = escape-cleared; bytes = refl })
+      let w = sym (good_ends buf) ∙ g in
+      record { state = rw w; kept = rw w; cleared = escape_cleared; bytes = refl })
       (λ g.
-      let w = sym (good-ends buf) ∙ g in
-      record { state = rw w; kept = rw (w, standard); cleared = escape-cleared; bytes = refl })
+      let w = sym (good_ends buf) ∙ g in
+      record { state = rw w; kept = rw (w, standard); cleared = escape_cleared; bytes = refl })
 
 -- 7E inside a frame
 pub ends_clean : (s : Held) → s.reader.reading ≡ Standard → s.reader.state ≡ Data → EndsClean s (step s 0x7E)
@@ -56,28 +56,28 @@ module _ (s : Held) (b : ℕ) (h : Clean s.reader) where
 
   ends : Clean (ended s.reader s.buf)
   ends =
-      let cleared = escape-cleared s.reader h.standard in
+      let cleared = escape_cleared s.reader h.standard in
       cond_all Clean (is_good (fault_of s.reader s.buf))
       (record { standard = h.standard; clean = cleared })
       (record { standard = h.standard; clean = (cleared, rw h.standard) })
 
-  stepBy-clean : (t : State) → CleanIn t s.reader → Clean (step_by t s b).reader
-  stepBy-clean Start c = cond_all (λ (t : State). Clean (moved s.reader t)) (eqb b 0x7E) (goes Address c) (goes Start c)
-  stepBy-clean Address c =
+  step_by_clean : (t : State) → CleanIn t s.reader → Clean (step_by t s b).reader
+  step_by_clean Start c = cond_all (λ (t : State). Clean (moved s.reader t)) (eqb b 0x7E) (goes Address c) (goes Start c)
+  step_by_clean Address c =
       cond_all (λ (t : State). Clean (moved s.reader t)) (eqb b 0xFF) (goes Data tt)
       (cond_all (λ (t : State). Clean (moved s.reader t)) (eqb b 0x7E) (goes Address c) (goes Start c))
-  stepBy-clean Data c =
+  step_by_clean Data c =
       cond_all (λ (t : Held). Clean t.reader) (eqb b 0x7E) ends
       (cond_all (λ (t : Held). Clean t.reader) (marks s.reader b)
       (record { standard = h.standard; clean = tt })
       (cond_all (λ (t : Held). Clean t.reader) (ltb s.reader.len (length s.buf))
       (record { standard = h.standard; clean = tt })
       (record { standard = h.standard; clean = (refl, refl) })))
-  stepBy-clean Complete c = h
+  step_by_clean Complete c = h
 
-  step-clean : Clean (step s b).reader
+  step_clean : Clean (step s b).reader
   unfolding step
-  step-clean = stepBy-clean s.reader.state h.clean
+  step_clean = step_by_clean s.reader.state h.clean
 
 -- ---- any call, from a fresh reader on
 
@@ -87,7 +87,7 @@ fresh_clean = record { standard = refl; clean = (refl, refl) }
 fed_clean : (s : Held) (bs : List ℕ) → Clean s.reader → Clean (fed s bs).now.reader
 unfolding fed
 fed_clean s [] h = h
-fed_clean s (b ∷ bs) h = cond_all (λ (f : Fed). Clean f.now.reader) (full s) h (fed_clean (step s b) bs (step-clean s b h))
+fed_clean s (b ∷ bs) h = cond_all (λ (f : Fed). Clean f.now.reader) (full s) h (fed_clean (step s b) bs (step_clean s b h))
 
 consumed_clean : (s : Held) (bs : List ℕ) → Clean s.reader → Clean (consumed s bs).now.reader
 unfolding consumed

@@ -22,7 +22,7 @@ use Rattle.framing.specs.declared.frame_reader.State.{State}
 use Rattle.framing.specs.declared.frame_reader.State.TheVariants.{Start, Address, Data, Complete}
 use Rattle.framing.specs.declared.frame_reader.FrameReader.{FrameReader}
 use Rattle.framing.proofs.Heard.{fetched_alike, heard-fed}
-use Rattle.framing.proofs.Reader.{fed-kept, fed_nil, fed-step, fed_stop, consumed-fed, consumed_short, Alike, step_alike}
+use Rattle.framing.proofs.Reader.{fed_kept, fed_nil, fed-step, fed_stop, consumed-fed, consumed_short, Alike, step_alike}
 
 -- ---- counts together
 
@@ -105,8 +105,8 @@ module _ (src : List ℕ) where
     pub counted_stop : full s ≡ true → d ≡ all
     counted_stop e = sym (together_none d) ∙ ap (together d) (sym (drops_stop s (drop i src) e)) ∙ c.same
 
-    pub counted-end : length src ≤ i → d ≡ all
-    counted-end h = sym (together_none d) ∙ ap (together d) (sym (ap (drops s) (drop_of_length-le src h) ∙ drops_nil s)) ∙ c.same
+    pub counted_end : length src ≤ i → d ≡ all
+    counted_end h = sym (together_none d) ∙ ap (together d) (sym (ap (drops s) (drop_of_length-le src h) ∙ drops_nil s)) ∙ c.same
 
 -- ---- a call
 
@@ -122,7 +122,7 @@ pub dropped_cut : (s : Held) (a b : List ℕ) → dropped s (a ++ b) ≡ togethe
 dropped_cut s a b =
     by_le s.reader.len (length s.buf)
     (λ h.
-    let k = fed-kept (length s.buf) s a (record { room = refl; within = h }) in
+    let k = fed_kept (length s.buf) s a (record { room = refl; within = h }) in
     rw (dropped-drops s (a ++ b) h, dropped-drops s a h, consumed-fed s a h, dropped-drops (fed s a).now ((fed s a).left ++ b) (omega arith)) (drops_cut s a b))
     (λ h. rw (dropped_short s (a ++ b) h, dropped_short s a h, consumed_short s a h, dropped_short s (a ++ b) h))
 

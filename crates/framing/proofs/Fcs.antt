@@ -37,17 +37,17 @@ differ_self (suc x) = differ_self x
 -- ---- one bit: the data is a xor into the register, and what stands above the low bits only moves down
 
 module _ (n h v d : ℕ) where
-  top-half : bit_xor (h * 2 ^ suc n) v / 2 ≡ bit_xor (h * 2 ^ n) (v / 2)
-  top-half = xor_half (h * 2 ^ suc n) v ∙ ap (λ (x : ℕ). bit_xor x (v / 2)) (shifted_half h n)
+  top_half : bit_xor (h * 2 ^ suc n) v / 2 ≡ bit_xor (h * 2 ^ n) (v / 2)
+  top_half = xor_half (h * 2 ^ suc n) v ∙ ap (λ (x : ℕ). bit_xor x (v / 2)) (shifted_half h n)
 
-  top-odd : bit_xor (h * 2 ^ suc n) v % 2 ≡ v % 2
-  top-odd = xor_odd (h * 2 ^ suc n) v ∙ ap (λ (x : ℕ). differ x (v % 2)) (shifted_even h n)
+  top_odd : bit_xor (h * 2 ^ suc n) v % 2 ≡ v % 2
+  top_odd = xor_odd (h * 2 ^ suc n) v ∙ ap (λ (x : ℕ). differ x (v % 2)) (shifted_even h n)
 
-  top-by : Dec (v % 2 ≡ d) → fcs_bit (bit_xor (h * 2 ^ suc n) v) d ≡ bit_xor (h * 2 ^ n) (fcs_bit v d)
-  top-by (yes e) = same (bit_xor (h * 2 ^ suc n) v) d (top-odd ∙ e) ∙ top-half ∙ ap (bit_xor (h * 2 ^ n)) (sym (same v d e))
-  top-by (no e) =
-      other (bit_xor (h * 2 ^ suc n) v) d (λ z. e (sym top-odd ∙ z))
-      ∙ ap (λ (x : ℕ). bit_xor x fcs_generator) top-half
+  top_by : Dec (v % 2 ≡ d) → fcs_bit (bit_xor (h * 2 ^ suc n) v) d ≡ bit_xor (h * 2 ^ n) (fcs_bit v d)
+  top_by (yes e) = same (bit_xor (h * 2 ^ suc n) v) d (top_odd ∙ e) ∙ top_half ∙ ap (bit_xor (h * 2 ^ n)) (sym (same v d e))
+  top_by (no e) =
+      other (bit_xor (h * 2 ^ suc n) v) d (λ z. e (sym top_odd ∙ z))
+      ∙ ap (λ (x : ℕ). bit_xor x fcs_generator) top_half
       ∙ xor_assoc (h * 2 ^ n) (v / 2) fcs_generator
       ∙ ap (bit_xor (h * 2 ^ n)) (sym (other v d e))
 
@@ -66,7 +66,7 @@ bits : (n h v b : ℕ) → b < 2 ^ n → fcs_bits n (bit_xor (h * 2 ^ n) v) b �
 unfolding fcs_bits
 bits zero h v b hb = ap₂ bit_xor (mul-one h) (sym (xor_zero_r v) ∙ ap (bit_xor v) (sym (lt-one hb)))
 bits (suc n) h v b hb =
-    ap (λ (s : ℕ). fcs_bits n s (b / 2)) (top-by n h v (b % 2) (ℕ_discrete (v % 2) (b % 2)))
+    ap (λ (s : ℕ). fcs_bits n s (b / 2)) (top_by n h v (b % 2) (ℕ_discrete (v % 2) (b % 2)))
     ∙ bits n h (fcs_bit v (b % 2)) (b / 2) (omega (arith, pow-suc 2 n))
     ∙ ap (λ (s : ℕ). bit_xor h (fcs_bits n s 0)) (data_by v b (ℕ_discrete (v % 2) (b % 2)))
 

@@ -56,21 +56,21 @@ module _ (m : ℕ) (p : List ℕ) {buf buf' : List ℕ} {n : ℕ} {t : Bool} (ra
       (λ h. rw (le-leb _ _ h) (fit_all (frame_units m p) (length buf) (rw join-frame h) ∙ join-frame m p))
       (λ h. rw (lt-leb _ _ h))
 
-  frame-bytes : buf' ≡ over (laid m p (length buf)) buf
-  frame-bytes =
+  frame_bytes : buf' ≡ over (laid m p (length buf)) buf
+  frame_bytes =
       ran.same_bytes ∙ sym closed.same_bytes ∙ sets_front (fit (length buf) (frame_units m p)) buf (fit_le (frame_units m p) (length buf))
       ∙ ap (λ (l : List ℕ). over l buf) fitted
 
-  frame-count : holds m p (length buf) ≡ true → n ≡ length (frame m p)
-  frame-count e = ran.same_at ∙ sym closed.same_at ∙ ap length fitted ∙ rw e
+  frame_count : holds m p (length buf) ≡ true → n ≡ length (frame m p)
+  frame_count e = ran.same_at ∙ sym closed.same_at ∙ ap length fitted ∙ rw e
 
   pub encodes : {o : Outcome} {k : ℕ} → outcome_number o ≡ cond t 0 1 → k ≡ cond t n 0 → Encodes m p buf o k buf'
   encodes {o} {k} a b =
       record {
         number = rw frame-done at a;
-        lays = record { count = go (holds m p (length buf)) refl (rw frame-done at b); bytes = frame-bytes };
+        lays = record { count = go (holds m p (length buf)) refl (rw frame-done at b); bytes = frame_bytes };
       }
     where
       go : (h : Bool) → holds m p (length buf) ≡ h → k ≡ cond h n 0 → k ≡ cond h (length (frame m p)) 0
-      go true e f = f ∙ frame-count e
+      go true e f = f ∙ frame_count e
       go false e f = f

@@ -7,10 +7,10 @@ use Prim.Native.Nat.{ℕ}
 use native.Mathlib.Omega.{arith}
 use Rattle.laws.specs.Quiet.{Quiet, none, more}
 use Rattle.laws.proofs.Cases.{by_test, cond_by, cond_all, cond_both}
-use Rattle.laws.proofs.Quiet.{quiet-first}
+use Rattle.laws.proofs.Quiet.{quiet_first}
 use Rattle.framing.specs.Reader.{Held, step, full, packet_of, fed, fetched}
 use Rattle.framing.specs.Heard.{packets_in, fetched_in, Heard, behind, heard, served}
-use Rattle.framing.proofs.Reader.{Kept, step_kept, fed-kept, fed_nil, fed-step, fed_stop, Alike, full_alike, step_alike, packet_alike}
+use Rattle.framing.proofs.Reader.{Kept, step_kept, fed_kept, fed_nil, fed-step, fed_stop, Alike, full_alike, step_alike, packet_alike}
 
 -- ---- a fetch
 
@@ -55,7 +55,7 @@ heard-append s (x ∷ a) b =
 pub heard_quiet : {s t : Held} {w : List ℕ} → Quiet step full s w t → (r : List ℕ) → heard s (w ++ r) ≡ heard t r
 unfolding heard
 heard_quiet (none e) r = refl
-heard_quiet (more e q) r = rw (quiet-first step full q) (heard_quiet q r)
+heard_quiet (more e q) r = rw (quiet_first step full q) (heard_quiet q r)
 
 pub heard_last : (s : Held) (b : ℕ) → full (step s b) ≡ true → heard s (b ∷ []) ≡ record { now = fetched_in (step s b); packets = packet_of (step s b) ∷ [] }
 unfolding heard
@@ -96,7 +96,7 @@ unfolding served
 served_kept l s rest [] h = h
 served_kept l s rest (c ∷ cs) h =
     let f = fed s (rest ++ c) in
-    served_kept l (fetched_in f.now) f.left cs (fetched_kept l f.now (fed-kept l s (rest ++ c) h))
+    served_kept l (fetched_in f.now) f.left cs (fetched_kept l f.now (fed_kept l s (rest ++ c) h))
 
 -- ---- bytes behind the kept length change no packet
 

@@ -33,20 +33,20 @@ inside k e n buf = held (next (fresh_reader k) Data e n) buf
 abbrev Taken : Reading → Bool → ℕ → ℕ → Type 0
 Taken k e b x = (n : ℕ) (buf : List ℕ) → step (inside k e n buf) b ≡ stored (inside k e n buf) x
 
-module _ (k : Reading) (b : ℕ) (noFlag : b ≡ 0x7E → ⊥) where
-  step-mark : eqb b 0x7D ≡ true → (n : ℕ) (buf : List ℕ) → step (inside k false n buf) b ≡ inside k true n buf
+module _ (k : Reading) (b : ℕ) (no_flag : b ≡ 0x7E → ⊥) where
+  step_mark : eqb b 0x7D ≡ true → (n : ℕ) (buf : List ℕ) → step (inside k false n buf) b ≡ inside k true n buf
   unfolding step
-  step-mark e n buf = rw (ne_eqb b 0x7E noFlag, e)
+  step_mark e n buf = rw (ne_eqb b 0x7E no_flag, e)
 
-  step-plain : eqb b 0x7D ≡ false → Taken k false b b
+  step_plain : eqb b 0x7D ≡ false → Taken k false b b
   unfolding step
-  step-plain e n buf = rw (ne_eqb b 0x7E noFlag, e)
+  step_plain e n buf = rw (ne_eqb b 0x7E no_flag, e)
 
   step-behind : eqb b 0x7D && is_crate k ≡ false → Taken k true b (bit_xor b 0x20)
   unfolding step
   step-behind e n buf =
       let unmarked : marks (inside k true n buf).reader b ≡ false = e in
-      rw (ne_eqb b 0x7E noFlag, unmarked)
+      rw (ne_eqb b 0x7E no_flag, unmarked)
 
 -- in state Start nothing but a flag counts
 pub start_quiet : (k : Reading) (buf w : List ℕ) → Without 0x7E w → Quiet step full (held (fresh_reader k) buf) w (held (fresh_reader k) buf)
@@ -74,8 +74,8 @@ read_off k false (b ∷ w) f d = go (eqb b 0x7D) refl d (λ e c. read_off k e w 
     go : (t : Bool) → eqb b 0x7D ≡ t → is_crate k && doubled t w ≡ false
         → ((e : Bool) → is_crate k && doubled e w ≡ false → Reads k e w (unescaped e w) (aborted e w))
         → Reads k false (b ∷ w) (cond t (unescaped true w) (b ∷ unescaped false w)) (aborted t w)
-    go true q c r = mark (step-mark k b f.0 q) (r true c)
-    go false q c r = byte (step-plain k b f.0 q) (r false c)
+    go true q c r = mark (step_mark k b f.0 q) (r true c)
+    go false q c r = byte (step_plain k b f.0 q) (r false c)
 
 -- a byte that is kept
 store : (k : Reading) (e : Bool) (n : ℕ) (buf : List ℕ) (x : ℕ) {b : ℕ} {w : List ℕ} {t : Held} → Taken k e b x → n < length buf
@@ -113,13 +113,13 @@ lost_by {k} (byte {e = e} {x = x} {w = w} q r) n buf f g h =
     let out = q n buf ∙ rw (le-ltb n (length buf) (omega arith)) in
     record { now = buf; quiet = quiet_step step full (held (fresh_reader k) buf) refl out (start_quiet k buf w f.1); same_room = refl })
 
-module _ (k : Reading) (e : Bool) (w : List ℕ) (n : ℕ) (buf : List ℕ) (noFlag : Without 0x7E w) (noDouble : is_crate k && doubled e w ≡ false) where
+module _ (k : Reading) (e : Bool) (w : List ℕ) (n : ℕ) (buf : List ℕ) (no_flag : Without 0x7E w) (no_double : is_crate k && doubled e w ≡ false) where
   pub keeps : n + length (unescaped e w) ≤ length buf
       → Quiet step full (inside k e n buf) w (inside k (aborted e w) (n + length (unescaped e w)) (sets buf n (unescaped e w)))
-  keeps h = kept_by (read_off k e w noFlag noDouble) n buf h
+  keeps h = kept_by (read_off k e w no_flag no_double) n buf h
 
   pub loses : n ≤ length buf → length buf < n + length (unescaped e w) → Lost k (length buf) (inside k e n buf) w
-  loses g h = lost_by (read_off k e w noFlag noDouble) n buf noFlag g h
+  loses g h = lost_by (read_off k e w no_flag no_double) n buf no_flag g h
 
 -- ---- the closing flag
 
@@ -140,7 +140,7 @@ module _ (k : Reading) (l buf : List ℕ) (room : length l ≤ length buf) where
   unfolding step
   closes e = rw (kept, e)
 
-  pub closes-bad : is_good (fault_in l) ≡ false → step (inside k false (length l) (sets buf 0 l)) 0x7E
+  pub closes_bad : is_good (fault_in l) ≡ false → step (inside k false (length l) (sets buf 0 l)) 0x7E
       ≡ held (next (fresh_reader k) Address false (cond (is_crate k) (length l) 0)) (sets buf 0 l)
   unfolding step
-  closes-bad e = rw (kept, e)
+  closes_bad e = rw (kept, e)

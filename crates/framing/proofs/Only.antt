@@ -53,8 +53,8 @@ module _ (s a b a' b' : ℕ) (hs : s < 2 ^ 16) (ha : a < 2 ^ 8) (hb : b < 2 ^ 8)
   unfolding fcs
   ends = e
 
-  last-index : bit_xor (fcs_byte s a % 2 ^ 8) b ≡ bit_xor (fcs_byte s a' % 2 ^ 8) b'
-  last-index = index (fcs_byte s a) b (mid a) hb ∙ ap (λ (x : ℕ). from_high (x / 2 ^ 8)) ends ∙ sym (index (fcs_byte s a') b' (mid a') hb')
+  last_index : bit_xor (fcs_byte s a % 2 ^ 8) b ≡ bit_xor (fcs_byte s a' % 2 ^ 8) b'
+  last_index = index (fcs_byte s a) b (mid a) hb ∙ ap (λ (x : ℕ). from_high (x / 2 ^ 8)) ends ∙ sym (index (fcs_byte s a') b' (mid a') hb')
 
   -- the last entry goes out of both sides
   tops : fcs_byte s a / 2 ^ 8 ≡ fcs_byte s a' / 2 ^ 8
@@ -62,7 +62,7 @@ module _ (s a b a' b' : ℕ) (hs : s < 2 ^ 16) (ha : a < 2 ^ 8) (hb : b < 2 ^ 8)
       let T = fcs_byte (bit_xor (fcs_byte s a % 2 ^ 8) b) 0 in
       sym (xor_back (fcs_byte s a / 2 ^ 8) T)
       ∙ ap (λ (x : ℕ). bit_xor x T)
-      (sym (fcs_byte_lem (fcs_byte s a) b hb) ∙ ends ∙ fcs_byte_lem (fcs_byte s a') b' hb' ∙ ap (λ (x : ℕ). bit_xor (fcs_byte s a' / 2 ^ 8) (fcs_byte x 0)) (sym last-index))
+      (sym (fcs_byte_lem (fcs_byte s a) b hb) ∙ ends ∙ fcs_byte_lem (fcs_byte s a') b' hb' ∙ ap (λ (x : ℕ). bit_xor (fcs_byte s a' / 2 ^ 8) (fcs_byte x 0)) (sym last_index))
       ∙ xor_back (fcs_byte s a' / 2 ^ 8) T
 
   pub same_first : a ≡ a'
@@ -71,7 +71,7 @@ module _ (s a b a' b' : ℕ) (hs : s < 2 ^ 16) (ha : a < 2 ^ 8) (hb : b < 2 ^ 8)
   pub same_second : b ≡ b'
   same_second =
       told (fcs_byte s a) b
-      ∙ ap₂ (λ (x y : ℕ). bit_xor (fcs_byte s x % 2 ^ 8) y) same_first last-index
+      ∙ ap₂ (λ (x y : ℕ). bit_xor (fcs_byte s x % 2 ^ 8) y) same_first last_index
       ∙ sym (told (fcs_byte s a') b')
 
 pub fcs_only : (s a b : ℕ) → s < 2 ^ 16 → a < 2 ^ 8 → b < 2 ^ 8 → fcs s (a ∷ b ∷ []) ≡ 0xF0B8 → (a ∷ b ∷ []) ≡ check_bytes s

@@ -23,9 +23,9 @@ use Rattle.framing.specs.declared.frame_reader.State.TheVariants.{Address}
 use Rattle.framing.specs.declared.frame_reader.Reading.{Reading}
 use Rattle.framing.specs.declared.frame_reader.Reading.TheVariants.{Standard}
 use Rattle.framing.proofs.Unstuffing.{removed_none, unescaped_bytes, control_length, fields_control}
-use Rattle.framing.proofs.Inside.{inside, start_quiet, loses, closes_open, closes-bad}
+use Rattle.framing.proofs.Inside.{inside, start_quiet, loses, closes_open, closes_bad}
 use Rattle.framing.proofs.Good.{Holds, good_holds}
-use Rattle.framing.proofs.Arrives.{idle-fresh, idle_waiting, waiting, waits, flag-read, address, enters, lands, arrives-heard}
+use Rattle.framing.proofs.Arrives.{idle-fresh, idle_waiting, waiting, waits, flag_read, address, enters, lands, arrives_heard}
 use Rattle.framing.proofs.Heard.{heard_quiet}
 
 -- a packet is handed out only where the paper reads it, and it is the only one
@@ -42,7 +42,7 @@ none_at : {A : Type 0} {x : List (List ℕ)} (p : List ℕ) (ps : List (List ℕ
 none_at p ps e f = let z : ◌≡◌ {A = ℕ} 0 1 = cc in absurd (omega arith)
 
 no_frame : {s : Held} → Idle s → full (step s 0x7E) ≡ false
-no_frame i = ap full (flag-read i)
+no_frame i = ap full (flag_read i)
 
 -- ---- behind the address
 
@@ -75,13 +75,13 @@ module _ (k : Reading) (m : ℕ) (buf w : List ℕ) (ok : Between k m (0xFF ∷ 
       → (heard (waiting k buf) ((0xFF ∷ w) ++ (0x7E ∷ []))).packets ≡ p ∷ ps → AsRead m (length buf) (0xFF ∷ w) p ps
   heard-holds p ps whole h fits e =
       let r = readable whole h fits in
-      let q : h.packet ∷ [] ≡ p ∷ ps = sym (ap (λ (x : Heard). x.packets) (arrives-heard (reads_on h.packet r))) ∙ e in
+      let q : h.packet ∷ [] ≡ p ∷ ps = sym (ap (λ (x : Heard). x.packets) (arrives_heard (reads_on h.packet r))) ∙ e in
       let same : h.packet ≡ p = cc in
       let last : ps ≡ [] = cc in
       (subst (Readable m (length buf) (0xFF ∷ w)) same r, last)
 
-  only-on : (p : List ℕ) (ps : List (List ℕ)) → (heard (waiting k buf) ((0xFF ∷ w) ++ (0x7E ∷ []))).packets ≡ p ∷ ps → AsRead m (length buf) (0xFF ∷ w) p ps
-  only-on p ps e =
+  only_on : (p : List ℕ) (ps : List (List ℕ)) → (heard (waiting k buf) ((0xFF ∷ w) ++ (0x7E ∷ []))).packets ≡ p ∷ ps → AsRead m (length buf) (0xFF ∷ w) p ps
+  only_on p ps e =
       let l = unescaped false w in
       by_le (length l) (length buf)
       (λ fits.
@@ -91,7 +91,7 @@ module _ (k : Reading) (m : ℕ) (buf w : List ℕ) (ok : Between k m (0xFF ∷ 
       (λ a.
       by_test (is_good (fault_in l))
       (λ g. heard-holds p ps a (good_holds l (unescaped_bytes false w ok.bytes.1) g) fits e)
-      (λ g. none_at p ps (heard_none 0x7E (rw a at inside-to) (ap full (closes-bad k l buf fits g))) e)))
+      (λ g. none_at p ps (heard_none 0x7E (rw a at inside-to) (ap full (closes_bad k l buf fits g))) e)))
       (λ short.
       let t = loses k false w 0 buf ok.no_flag.1 habits.1 (omega arith) (simp zero-add short) in
       none_at p ps (heard_none 0x7E (quiet_step step full (inside k false 0 buf) refl (address k buf) t.quiet) (no_frame (idle-fresh k t.now))) e)
@@ -115,7 +115,7 @@ module _ (k : Reading) (m : ℕ) (buf : List ℕ) where
       by_test (eqb b 0xFF)
       (λ q.
       subst⁻¹ (λ x. Between k m (x ∷ w) → (heard (waiting k buf) ((x ∷ w) ++ (0x7E ∷ []))).packets ≡ p ∷ ps → AsRead m (length buf) (x ∷ w) p ps) (eqb-true b 0xFF q)
-      (λ o. only-on k m buf w o p ps) ok e)
+      (λ o. only_on k m buf w o p ps) ok e)
       (λ q.
       none_at p ps
       (heard_none 0x7E (quiet_step step full (held (fresh_reader k) buf) refl (other b ok.no_flag.0 q) (start_quiet k buf w ok.no_flag.1)) (no_frame (idle-fresh k buf))) e)
@@ -126,16 +126,16 @@ standard_between b f r = record { bytes = b; no_flag = f; no_removal = r; no_hab
 
 -- A reader stands behind a flag with nothing kept, and w and a closing flag follow. (w has no flag in it and no byte that the map m
 -- flags; in crate reading it also has no escape right before the closing flag and no 7D right behind 7D.)
-module _ (s : Held) (m : ℕ) (w : List ℕ) (idle : Idle s) (behindFlag : s.reader.state ≡ Address) (ok : Between s.reader.reading m w) where
+module _ (s : Held) (m : ℕ) (w : List ℕ) (idle : Idle s) (behind_flag : s.reader.state ≡ Address) (ok : Between s.reader.reading m w) where
   -- Where RFC 1662's receiver with the map m reads a valid frame with the information p off w, address unescaped, and the buffer
   -- has room for it, p is handed out.
   pub reads : (p : List ℕ) → Readable m (length s.buf) w p → Arrives s (w ++ (0x7E ∷ [])) p
-  reads p r = subst⁻¹ (λ t. Arrives t (w ++ (0x7E ∷ [])) p) (waits idle behindFlag) (reads_at s.reader.reading m s.buf w p ok r)
+  reads p r = subst⁻¹ (λ t. Arrives t (w ++ (0x7E ∷ [])) p) (waits idle behind_flag) (reads_at s.reader.reading m s.buf w p ok r)
 
   -- And a packet is handed out nowhere else, and never two.
   pub read_only : (p : List ℕ) (ps : List (List ℕ)) → (heard s (w ++ (0x7E ∷ []))).packets ≡ p ∷ ps → Readable m (length s.buf) w p × (ps ≡ [])
   read_only p ps e =
-      only_at s.reader.reading m s.buf w p ps ok (subst (λ t. (heard t (w ++ (0x7E ∷ []))).packets ≡ p ∷ ps) (waits idle behindFlag) e)
+      only_at s.reader.reading m s.buf w p ps ok (subst (λ t. (heard t (w ++ (0x7E ∷ []))).packets ≡ p ∷ ps) (waits idle behind_flag) e)
 
   -- Where an escape stands right before the closing flag, the paper reads no packet, and neither does the reader.
   pub unread : aborted false (removed m w) ≡ true → ((p : List ℕ) → Carries m w p → ⊥) × ((heard s (w ++ (0x7E ∷ []))).packets ≡ [])

@@ -12,7 +12,7 @@ use lib.ListN.{length, get_or, take, drop, length-take, length-drop, length-set,
 use lib.Seq.{drop-cons, take-suc-set}
 use Rattle.laws.specs.Quiet.{Quiet, none, more}
 use Rattle.laws.proofs.Cases.{by_test, by_le, cond_by, cond_all, cond_both}
-use Rattle.laws.proofs.Parts.{same-part}
+use Rattle.laws.proofs.Parts.{same_part}
 use Rattle.framing.specs.Reader.{is_crate, is_complete, fresh_reader, next, moved, marks, plain_of, escape_after, len_after, aborts, fault_in, fault_of, is_good, ended, Held, held, stored, step_by, step, full, Fed, fed, is_short, consumed, Consumes, Framed, packet_of, got_number, Receives}
 use Rattle.framing.specs.declared.refusal.Refusal.TheVariants.{BufferShort}
 use Rattle.framing.specs.declared.refusal.Outcome.{Outcome}
@@ -32,34 +32,34 @@ pub record Kept (l : ℕ) (s : Held) : Type 0 where
   pub within : s.reader.len ≤ l
 
 module _ (l : ℕ) where
-  ended-kept : (s : Held) → Kept l s → Kept l (held (ended s.reader s.buf) s.buf)
-  ended-kept s h =
+  ended_kept : (s : Held) → Kept l s → Kept l (held (ended s.reader s.buf) s.buf)
+  ended_kept s h =
       cond_all (λ (r : FrameReader). Kept l (held r s.buf)) (is_good (fault_of s.reader s.buf))
       (record { room = h.room; within = h.within })
       (record { room = h.room; within = cond_all (λ (n : ℕ). n ≤ l) (is_crate s.reader.reading) h.within (omega arith) })
 
-  stored-kept : (s : Held) (b : ℕ) → Kept l s → Kept l (stored s b)
-  stored-kept s b h =
+  stored_kept : (s : Held) (b : ℕ) → Kept l s → Kept l (stored s b)
+  stored_kept s b h =
       cond_by (Kept l) (ltb s.reader.len (length s.buf))
       (λ t. record { room = length-set s.buf s.reader.len b ∙ h.room; within = omega (arith, ltb-true s.reader.len (length s.buf) t) })
       (λ t. record { room = h.room; within = omega arith })
 
-  stepBy-kept : (st : State) (s : Held) (b : ℕ) → Kept l s → Kept l (step_by st s b)
-  stepBy-kept Start s b h = record { room = h.room; within = h.within }
-  stepBy-kept Address s b h = record { room = h.room; within = h.within }
-  stepBy-kept Data s b h =
-      cond_all (Kept l) (eqb b 0x7E) (ended-kept s h)
-      (cond_all (Kept l) (marks s.reader b) (record { room = h.room; within = h.within }) (stored-kept s (plain_of s.reader b) h))
-  stepBy-kept Complete s b h = h
+  step_by_kept : (st : State) (s : Held) (b : ℕ) → Kept l s → Kept l (step_by st s b)
+  step_by_kept Start s b h = record { room = h.room; within = h.within }
+  step_by_kept Address s b h = record { room = h.room; within = h.within }
+  step_by_kept Data s b h =
+      cond_all (Kept l) (eqb b 0x7E) (ended_kept s h)
+      (cond_all (Kept l) (marks s.reader b) (record { room = h.room; within = h.within }) (stored_kept s (plain_of s.reader b) h))
+  step_by_kept Complete s b h = h
 
   pub step_kept : (s : Held) (b : ℕ) → Kept l s → Kept l (step s b)
   unfolding step
-  step_kept s b h = stepBy-kept s.reader.state s b h
+  step_kept s b h = step_by_kept s.reader.state s b h
 
-  pub fed-kept : (s : Held) (bs : List ℕ) → Kept l s → Kept l (fed s bs).now
+  pub fed_kept : (s : Held) (bs : List ℕ) → Kept l s → Kept l (fed s bs).now
   unfolding fed
-  fed-kept s [] h = h
-  fed-kept s (b ∷ bs) h = cond_all (λ (f : Fed). Kept l f.now) (full s) h (fed-kept (step s b) bs (step_kept s b h))
+  fed_kept s [] h = h
+  fed_kept s (b ∷ bs) h = cond_all (λ (f : Fed). Kept l f.now) (full s) h (fed_kept (step s b) bs (step_kept s b h))
 
 -- ---- a complete frame has three bytes or more, so refusal 5 is for records that no calls reach
 
@@ -177,7 +177,7 @@ consumed-fed s bs h = rw (le-ltb (length s.buf) s.reader.len h)
 
 pub consumed_kept : (l : ℕ) (s : Held) (bs : List ℕ) → Kept l s → Kept l (consumed s bs).now
 unfolding consumed
-consumed_kept l s bs h = cond_all (λ (f : Fed). Kept l f.now) (is_short s) h (fed-kept l s bs h)
+consumed_kept l s bs h = cond_all (λ (f : Fed). Kept l f.now) (is_short s) h (fed_kept l s bs h)
 
 pub consumed_framed : (s : Held) (bs : List ℕ) → Framed s.reader → Framed (consumed s bs).now.reader
 unfolding consumed
@@ -188,7 +188,7 @@ pub consumed_cut : (s : Held) (a b : List ℕ) → consumed s (a ++ b) ≡ consu
 consumed_cut s a b =
     by_le s.reader.len (length s.buf)
     (λ h.
-    let k = fed-kept (length s.buf) s a (record { room = refl; within = h }) in
+    let k = fed_kept (length s.buf) s a (record { room = refl; within = h }) in
     rw (consumed-fed s (a ++ b) h, consumed-fed s a h, consumed-fed (fed s a).now ((fed s a).left ++ b) (omega arith)) (fed_cut s a b))
     (λ h. rw (consumed_short s a h))
 
@@ -228,14 +228,14 @@ consumes_at s t i bs h k f =
 
 -- what a call's count says
 module _ {s : Held} {bs : List ℕ} {o : Outcome} {n : ℕ} {r : FrameReader} {buf : List ℕ} (h : Consumes s bs o n r buf) where
-  pub count-le : n ≤ length bs
-  count-le = omega (arith, h.count)
+  pub count_le : n ≤ length bs
+  count_le = omega (arith, h.count)
 
   pub count_left : (consumed s bs).left ≡ drop n bs
   count_left = rw h.count (consumed_left s bs)
 
-  pub call-now : (consumed s bs).now ≡ held r buf
-  call-now = ap₂ held (sym h.reader) (sym h.bytes)
+  pub call_now : (consumed s bs).now ≡ held r buf
+  call_now = ap₂ held (sym h.reader) (sym h.bytes)
 
 -- ---- bytes behind the kept length change no later answer
 
@@ -253,14 +253,14 @@ module _ (x y : List ℕ) (e : length x ≡ length y) where
   pair : (r : FrameReader) → take r.len x ≡ take r.len y → Alike (held r x) (held r y)
   pair r q = record { same_reader = refl; same_room = e; same_kept = q }
 
-  ended-alike : (r : FrameReader) → take r.len x ≡ take r.len y → Alike (held (ended r x) x) (held (ended r y) y)
-  ended-alike r q =
+  ended_alike : (r : FrameReader) → take r.len x ≡ take r.len y → Alike (held (ended r x) x) (held (ended r y) y)
+  ended_alike r q =
       cond_both (λ (a b : FrameReader). Alike (held a x) (held b y)) (ap (λ (l : List ℕ). is_good (cond (aborts r) Aborted (fault_in l))) q)
       (λ _. pair (next r Complete (escape_after r) r.len) q)
       (λ _. pair (next r Address (escape_after r) (len_after r)) (cond_all (λ (n : ℕ). take n x ≡ take n y) (is_crate r.reading) q refl))
 
-  stored-alike : (r : FrameReader) (b : ℕ) → take r.len x ≡ take r.len y → Alike (stored (held r x) b) (stored (held r y) b)
-  stored-alike r b q =
+  stored_alike : (r : FrameReader) (b : ℕ) → take r.len x ≡ take r.len y → Alike (stored (held r x) b) (stored (held r y) b)
+  stored_alike r b q =
       cond_both Alike (ap (ltb r.len) e)
       (λ t.
       let h = ltb-true r.len (length x) t in
@@ -271,21 +271,21 @@ module _ (x y : List ℕ) (e : length x ≡ length y) where
       })
       (λ t. pair (next r Start false 0) refl)
 
-  stepBy-alike : (st : State) (r : FrameReader) (b : ℕ) → take r.len x ≡ take r.len y → Alike (step_by st (held r x) b) (step_by st (held r y) b)
-  stepBy-alike Start r b q = pair (moved r (cond (eqb b 0x7E) Address Start)) q
-  stepBy-alike Address r b q = pair (moved r (cond (eqb b 0xFF) Data (cond (eqb b 0x7E) Address Start))) q
-  stepBy-alike Data r b q =
-      cond_both Alike {t = eqb b 0x7E} refl (λ _. ended-alike r q)
+  step_by_alike : (st : State) (r : FrameReader) (b : ℕ) → take r.len x ≡ take r.len y → Alike (step_by st (held r x) b) (step_by st (held r y) b)
+  step_by_alike Start r b q = pair (moved r (cond (eqb b 0x7E) Address Start)) q
+  step_by_alike Address r b q = pair (moved r (cond (eqb b 0xFF) Data (cond (eqb b 0x7E) Address Start))) q
+  step_by_alike Data r b q =
+      cond_both Alike {t = eqb b 0x7E} refl (λ _. ended_alike r q)
       (λ _. cond_both Alike {t = marks r b} refl
       (λ _. pair (next r Data true r.len) q)
-      (λ _. stored-alike r (plain_of r b) q))
-  stepBy-alike Complete r b q = pair r q
+      (λ _. stored_alike r (plain_of r b) q))
+  step_by_alike Complete r b q = pair r q
 
 pub step_alike : (s t : Held) (b : ℕ) → Alike s t → Alike (step s b) (step t b)
 unfolding step
 step_alike s t b h =
     subst (λ (r : FrameReader). Alike (step s b) (step (held r t.buf) b)) h.same_reader
-    (stepBy-alike s.buf t.buf h.same_room s.reader.state s.reader b h.same_kept)
+    (step_by_alike s.buf t.buf h.same_room s.reader.state s.reader b h.same_kept)
 
 -- what is left is the same, and what is left behind is alike
 pub record FedAlike (f g : Fed) : Type 0 where
@@ -311,5 +311,5 @@ consumed_alike s t bs h =
 
 pub packet_alike : (s t : Held) → Alike s t → packet_of s ≡ packet_of t
 packet_alike s t h =
-    same-part s.reader.len 1 (s.reader.len - 2 - 1) s.buf t.buf (omega arith) h.same_kept
+    same_part s.reader.len 1 (s.reader.len - 2 - 1) s.buf t.buf (omega arith) h.same_kept
     ∙ ap (λ (r : FrameReader). take (r.len - 2 - 1) (drop 1 t.buf)) h.same_reader

@@ -15,22 +15,22 @@ module _ (s : Held) (b : ℕ) where
   abbrev Same : Held → Type 0
   Same t = t.reader.reading ≡ s.reader.reading
 
-  stepBy-reading : (st : State) → Same (step_by st s b)
-  stepBy-reading Start = refl
-  stepBy-reading Address = refl
-  stepBy-reading Data =
+  step_by_reading : (st : State) → Same (step_by st s b)
+  step_by_reading Start = refl
+  step_by_reading Address = refl
+  step_by_reading Data =
       cond_all Same (eqb b 0x7E) (cond_all (λ (r : FrameReader). r.reading ≡ s.reader.reading) (is_good (fault_of s.reader s.buf)) refl refl)
       (cond_all Same (marks s.reader b) refl (cond_all Same (ltb s.reader.len (length s.buf)) refl refl))
-  stepBy-reading Complete = refl
+  step_by_reading Complete = refl
 
-  pub step-reading : Same (step s b)
+  pub step_reading : Same (step s b)
   unfolding step
-  step-reading = stepBy-reading s.reader.state
+  step_reading = step_by_reading s.reader.state
 
 pub fed_reading : (s : Held) (bs : List ℕ) → (fed s bs).now.reader.reading ≡ s.reader.reading
 unfolding fed
 fed_reading s [] = refl
-fed_reading s (b ∷ bs) = cond_all (λ (f : Fed). f.now.reader.reading ≡ s.reader.reading) (full s) refl (fed_reading (step s b) bs ∙ step-reading s b)
+fed_reading s (b ∷ bs) = cond_all (λ (f : Fed). f.now.reader.reading ≡ s.reader.reading) (full s) refl (fed_reading (step s b) bs ∙ step_reading s b)
 
 pub consumed_reading : (s : Held) (bs : List ℕ) → (consumed s bs).now.reader.reading ≡ s.reader.reading
 unfolding consumed

@@ -22,5 +22,5 @@ module _ {m : ℕ} {bs buf buf' : List ℕ} {at c at' c' : ℕ} {t : Bool} (w : 
       }
 
   -- a writer takes the walk's check value where all fitted, and else keeps full
-  pub walked-writer : (full k : ℕ) → written t at' full c' k ≡ written t at' full (fcs c bs) k
-  walked-writer full k = ap (λ (s : ℕ). record { len = at'; crc = s; asyncmap = k }) (cond_both ◌≡◌ refl w.check (λ _. refl))
+  pub walked_writer : (full k : ℕ) → written t at' full c' k ≡ written t at' full (fcs c bs) k
+  walked_writer full k = ap (λ (s : ℕ). record { len = at'; crc = s; asyncmap = k }) (cond_both ◌≡◌ refl w.check (λ _. refl))

@@ -26,12 +26,12 @@ below f (suc n) t k h =
     (eq-or-lt_of_le (le_of_suc-le-suc h))
 
 module _ {A : Type 0} (f : ℕ → A → Bool) (d : A) where
-  entry-from : (xs : List A) (i : ℕ) → T (every_entry f i xs) → (k : ℕ) → k < length xs → T (f (i + k) (get_or xs k d))
-  entry-from [] i t k h = absurd (not-suc-le-zero h)
-  entry-from (x ∷ xs) i t zero h = subst (λ (m : ℕ). T (f m x)) (sym (add-zero i)) (both_left (f i x) (every_entry f (suc i) xs) t)
-  entry-from (x ∷ xs) i t (suc k) h =
+  entry_from : (xs : List A) (i : ℕ) → T (every_entry f i xs) → (k : ℕ) → k < length xs → T (f (i + k) (get_or xs k d))
+  entry_from [] i t k h = absurd (not-suc-le-zero h)
+  entry_from (x ∷ xs) i t zero h = subst (λ (m : ℕ). T (f m x)) (sym (add-zero i)) (both_left (f i x) (every_entry f (suc i) xs) t)
+  entry_from (x ∷ xs) i t (suc k) h =
       subst (λ (m : ℕ). T (f m (get_or xs k d))) (suc-add i k ∙ sym (add-suc i k))
-      (entry-from xs (suc i) (both_right (f i x) (every_entry f (suc i) xs) t) k (le_of_suc-le-suc h))
+      (entry_from xs (suc i) (both_right (f i x) (every_entry f (suc i) xs) t) k (le_of_suc-le-suc h))
 
-  pub each-entry : (xs : List A) → T (every_entry f 0 xs) → (k : ℕ) → k < length xs → T (f k (get_or xs k d))
-  each-entry xs t k h = subst (λ (m : ℕ). T (f m (get_or xs k d))) (zero-add k) (entry-from xs 0 t k h)
+  pub each_entry : (xs : List A) → T (every_entry f 0 xs) → (k : ℕ) → k < length xs → T (f k (get_or xs k d))
+  each_entry xs t k h = subst (λ (m : ℕ). T (f m (get_or xs k d))) (zero-add k) (entry_from xs 0 t k h)

@@ -15,15 +15,15 @@ module _ {A : Type 0} where
   drop-take (suc n) (suc k) (a ∷ l) = rw suc-sub-suc (drop-take n k l)
 
   -- lists that agree up to k agree on m elements from n on, where these end by k
-  pub same-part : (k n m : ℕ) (x y : List A) → m ≤ k - n → take k x ≡ take k y → take m (drop n x) ≡ take m (drop n y)
-  same-part k n m x y h e = sym (front x) ∙ ap (λ (l : List A). take m (drop n l)) e ∙ front y
+  pub same_part : (k n m : ℕ) (x y : List A) → m ≤ k - n → take k x ≡ take k y → take m (drop n x) ≡ take m (drop n y)
+  same_part k n m x y h e = sym (front x) ∙ ap (λ (l : List A). take m (drop n l)) e ∙ front y
     where
       front : (l : List A) → take m (drop n (take k l)) ≡ take m (drop n l)
       front l = ap (take m) (drop-take n k l) ∙ take-take m (k - n) (drop n l) h
 
   -- a front of a front is a front, as long as it is
-  pub take-of-take : (k v : ℕ) (l : List A) → take k (take v l) ≡ take (length (take k (take v l))) l
-  take-of-take zero v l = refl
-  take-of-take (suc k) zero l = refl
-  take-of-take (suc k) (suc v) [] = refl
-  take-of-take (suc k) (suc v) (a ∷ l) = ap (λ (r : List A). a ∷ r) (take-of-take k v l)
+  pub take_of_take : (k v : ℕ) (l : List A) → take k (take v l) ≡ take (length (take k (take v l))) l
+  take_of_take zero v l = refl
+  take_of_take (suc k) zero l = refl
+  take_of_take (suc k) (suc v) [] = refl
+  take_of_take (suc k) (suc v) (a ∷ l) = ap (λ (r : List A). a ∷ r) (take_of_take k v l)

@@ -29,14 +29,14 @@ pub makes_chosen : (name password : List ℕ) (c : Choices) {o : Outcome} {l : P
 makes_chosen name password c m = ap choices_of m.link
 
 module _ (l : PPPoS) {l' : PPPoS} where
-  pub opens-keeps : {o : Outcome} → Opens l o l' → choices_of l' ≡ choices_of l
-  opens-keeps c = ap choices_of c.link
+  pub opens_keeps : {o : Outcome} → Opens l o l' → choices_of l' ≡ choices_of l
+  opens_keeps c = ap choices_of c.link
 
-  pub consumes-keeps : (rx bs : List ℕ) {o : Outcome} {n : ℕ} {rx' : List ℕ} → Consumes l rx bs o n l' rx' → choices_of l' ≡ choices_of l
-  consumes-keeps rx bs c = ap choices_of c.link ∙ consumed_choices l rx bs
+  pub consumes_keeps : (rx bs : List ℕ) {o : Outcome} {n : ℕ} {rx' : List ℕ} → Consumes l rx bs o n l' rx' → choices_of l' ≡ choices_of l
+  consumes_keeps rx bs c = ap choices_of c.link ∙ consumed_choices l rx bs
 
-  pub polls-keeps : (tx rx : List ℕ) {a : PPPoSAction} {tx' rx' : List ℕ} → Polls (poll_link l tx rx) a l' tx' rx' → choices_of l' ≡ choices_of l
-  polls-keeps tx rx p = ap choices_of p.link ∙ poll_choices l tx rx
+  pub polls_keeps : (tx rx : List ℕ) {a : PPPoSAction} {tx' rx' : List ℕ} → Polls (poll_link l tx rx) a l' tx' rx' → choices_of l' ≡ choices_of l
+  polls_keeps tx rx p = ap choices_of p.link ∙ poll_choices l tx rx
 
 -- so a link that calls reach has the choices that it was made with
 pub reached_chosen : {c : Choices} {l : PPPoS} → Reached c l → choices_of l ≡ c

@@ -16,7 +16,7 @@ use Rattle.framing.specs.declared.frame_reader.FrameReader.{FrameReader}
 use Rattle.framing.proofs.Reader.{consumed-fed, fed_left, Alike, alike_refl}
 use Rattle.phases.specs.Phases.{Turn, turn_to, received_of, poll_of, turn_of}
 use Rattle.phases.specs.declared.ppp.Ppp.{Ppp}
-use Rattle.phases.proofs.Phasing.{received-ip, turn-ip}
+use Rattle.phases.proofs.Phasing.{received_ip_lem, turn_ip}
 use Rattle.options.specs.Wire.{protocol_in}
 use Rattle.options.specs.declared.refusal.Outcome as negotiation
 use Rattle.link.specs.Frames.{frames, always_enough}
@@ -37,10 +37,10 @@ is_ip_lem x e =
     (leb-true 2 (length x) k.0, eqb-true (protocol_in x) 0x0021 k.1)
 
 pub ip_received : (p : Ppp) (x : List ℕ) → is_ip x ≡ true → received_of p x ≡ turn_to p []
-ip_received p x e = received-ip p x (is_ip_lem x e).0 (is_ip_lem x e).1
+ip_received p x e = received_ip_lem p x (is_ip_lem x e).0 (is_ip_lem x e).1
 
 pub ip_turn : (p : Ppp) (x : List ℕ) → is_ip x ≡ true → turn_of p x ≡ poll_of p
-ip_turn p x e = turn-ip p x (is_ip_lem x e).0 (is_ip_lem x e).1
+ip_turn p x e = turn_ip p x (is_ip_lem x e).0 (is_ip_lem x e).1
 
 -- a consume: framing's run on the kept bytes; what it left stands behind the bytes that are counted
 pub consume_feeds : {l : PPPoS} {rx bs : List ℕ} {o : Outcome} {n : ℕ} {l' : PPPoS} {rx' : List ℕ} → Consumes l rx bs o n l' rx'
@@ -56,13 +56,13 @@ echo_alike true r rx k = record { same_reader = refl; same_room = length-set rx 
 echo_alike false r rx k = alike_refl (held r rx)
 
 module _ (l : PPPoS) (r : FrameReader) (t : Turn) (tx rx : List ℕ) (room : length (frames t.sent) ≤ length tx) (k : t.echoed ≡ true → r.len ≡ 0) where
-  by-outcome : (o : negotiation.Outcome) → Alike (held_by (by_outcome o l r t tx rx).link (by_outcome o l r t tx rx).rx) (held r rx)
-  by-outcome negotiation.TheVariants.Done = rw (le-leb (length (frames t.sent)) (length tx) room) (echo_alike t.echoed r rx k)
-  by-outcome (negotiation.TheVariants.Refused why) = alike_refl (held r rx)
+  by_outcome_lem : (o : negotiation.Outcome) → Alike (held_by (by_outcome o l r t tx rx).link (by_outcome o l r t tx rx).rx) (held r rx)
+  by_outcome_lem negotiation.TheVariants.Done = rw (le-leb (length (frames t.sent)) (length tx) room) (echo_alike t.echoed r rx k)
+  by_outcome_lem (negotiation.TheVariants.Refused why) = alike_refl (held r rx)
 
-  answered-alike : Alike (held_by (answered_poll l r t tx rx).link (answered_poll l r t tx rx).rx) (held r rx)
+  answered_alike : Alike (held_by (answered_poll l r t tx rx).link (answered_poll l r t tx rx).rx) (held r rx)
   unfolding answered_poll
-  answered-alike = by-outcome t.outcome
+  answered_alike = by_outcome_lem t.outcome
 
 -- a poll that is lent enough leaves what a fetch does, but for bytes behind the kept ones
 pub poll-fetches : (l : PPPoS) (tx rx : List ℕ) → l.frame_reader.len ≤ length rx → always_enough ≤ length tx
@@ -77,31 +77,31 @@ poll-fetches l tx rx h room =
     (λ s. by_test (is_ip pkt)
     (λ i. rw (le-ltb (length rx) r.len h, e, s, i) (alike_refl (held (fetched r) rx)))
     (λ i. rw (le-ltb (length rx) r.len h, e, s, i)
-    (answered-alike l (fetched r) (turn_of l.ppp pkt) tx rx (omega (arith, turn_narrow l.ppp pkt)) (λ _. refl)))))
+    (answered_alike l (fetched r) (turn_of l.ppp pkt) tx rx (omega (arith, turn_narrow l.ppp pkt)) (λ _. refl)))))
     (λ e. rw (le-ltb (length rx) r.len h, e)
-    (answered-alike l r (poll_of l.ppp) tx rx (omega (arith, poll_narrow l.ppp)) (λ (x : false ≡ true). absurd (false≢true x))))
+    (answered_alike l r (poll_of l.ppp) tx rx (omega (arith, poll_narrow l.ppp)) (λ (x : false ≡ true). absurd (false≢true x))))
 
 -- what such a poll comes to, where negotiation refuses nothing: its turn, and its frames behind one another
 module _ (l : PPPoS) (tx rx : List ℕ) (h : l.frame_reader.len ≤ length rx) (room : always_enough ≤ length tx) where
-  abbrev pub writtenPoll : FrameReader → Turn → Poll
-  writtenPoll r t =
+  abbrev pub written_poll : FrameReader → Turn → Poll
+  written_poll r t =
       record { action = sent (length (frames t.sent)); link = link_of r t.ppp; tx = over (frames t.sent) tx; rx = echoed_in t.echoed rx }
 
-  answered-written : (r : FrameReader) (t : Turn) → length (frames t.sent) ≤ always_enough → t.outcome ≡ negotiation.TheVariants.Done → answered_poll l r t tx rx ≡ writtenPoll r t
+  answered-written : (r : FrameReader) (t : Turn) → length (frames t.sent) ≤ always_enough → t.outcome ≡ negotiation.TheVariants.Done → answered_poll l r t tx rx ≡ written_poll r t
   unfolding answered_poll
   answered-written r t n e = rw (e, le-leb (length (frames t.sent)) (length tx) (omega arith)) refl
 
   pub poll-turns : is_complete l.frame_reader.state ≡ true → 3 ≤ l.frame_reader.len → is_ip (packet_of (held_by l rx)) ≡ false
       → (turn_of l.ppp (packet_of (held_by l rx))).outcome ≡ negotiation.TheVariants.Done
-      → poll_link l tx rx ≡ writtenPoll (fetched l.frame_reader) (turn_of l.ppp (packet_of (held_by l rx)))
+      → poll_link l tx rx ≡ written_poll (fetched l.frame_reader) (turn_of l.ppp (packet_of (held_by l rx)))
   unfolding poll_link packet_poll
   poll-turns f n i e =
       let r = l.frame_reader in
       rw (le-ltb (length rx) r.len h, f, le-ltb r.len 3 n, i)
       (answered-written (fetched r) (turn_of l.ppp (packet_of (held_by l rx))) (turn_narrow l.ppp (packet_of (held_by l rx))) e)
 
-  pub poll-waits : is_complete l.frame_reader.state ≡ false → poll_link l tx rx ≡ writtenPoll l.frame_reader (poll_of l.ppp)
+  pub poll_waits : is_complete l.frame_reader.state ≡ false → poll_link l tx rx ≡ written_poll l.frame_reader (poll_of l.ppp)
   unfolding poll_link
-  poll-waits f =
+  poll_waits f =
       rw (le-ltb (length rx) l.frame_reader.len h, f)
       (answered-written l.frame_reader (poll_of l.ppp) (poll_narrow l.ppp) refl)

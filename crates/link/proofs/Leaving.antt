@@ -24,11 +24,11 @@ module _ (P : PPPoS → Type 0) (l : PPPoS) (tx rx : List ℕ) (stays : P l) whe
 
   answered-leaves : (r : FrameReader) (t : Turn) → P (link_of r l.ppp) → P (link_of r t.ppp) → Leaves (answered_poll l r t tx rx)
   unfolding answered_poll
-  answered-leaves r t old new = by-outcome t.outcome
+  answered-leaves r t old new = by_outcome_lem t.outcome
     where
-      by-outcome : (o : Outcome) → Leaves (by_outcome o l r t tx rx)
-      by-outcome Done = cond_all Leaves (leb (length (frames t.sent)) (length tx)) new stays
-      by-outcome (Refused why) = old
+      by_outcome_lem : (o : Outcome) → Leaves (by_outcome o l r t tx rx)
+      by_outcome_lem Done = cond_all Leaves (leb (length (frames t.sent)) (length tx)) new stays
+      by_outcome_lem (Refused why) = old
 
   -- as it was, with its frame fetched, with a packet taken that is not IPv4's, with a phase step taken
   pub poll-leaves : P (link_of (fetched l.frame_reader) l.ppp)
@@ -51,14 +51,14 @@ module _ (l : PPPoS) (tx rx : List ℕ) where
 
   answered-long : (r : FrameReader) (t : Turn) → AsLong (answered_poll l r t tx rx)
   unfolding answered_poll
-  answered-long r t = by-outcome t.outcome
+  answered-long r t = by_outcome_lem t.outcome
     where
-      by-outcome : (o : Outcome) → AsLong (by_outcome o l r t tx rx)
-      by-outcome Done =
+      by_outcome_lem : (o : Outcome) → AsLong (by_outcome o l r t tx rx)
+      by_outcome_lem Done =
           cond_by AsLong (leb (length (frames t.sent)) (length tx))
           (λ e. omega (arith, length-append (frames t.sent) (drop (length (frames t.sent)) tx), length-drop (length (frames t.sent)) tx, leb-true (length (frames t.sent)) (length tx) e))
           (λ _. refl)
-      by-outcome (Refused why) = refl
+      by_outcome_lem (Refused why) = refl
 
   pub poll-long : AsLong (poll_link l tx rx)
   unfolding poll_link packet_poll

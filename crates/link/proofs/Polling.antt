@@ -64,10 +64,10 @@ module _ (l : PPPoS) (r : FrameReader) (t : Turn) (tx rx : List ℕ) where
       → tx' ≡ sets tx 0 (frames t.sent) → rx' ≡ echoed_in t.echoed rx → polled a (link_of r t.ppp) tx' rx' ≡ written l r t tx rx
   written_all h e ea et er = rw h (polled_as (ea ∙ ap sent e) refl (et ∙ sets_front (frames t.sent) tx (leb-true (length (frames t.sent)) (length tx) h)) er)
 
-  pub answered-refused : {why : negotiation.Refusal} → t.outcome ≡ negotiated.TheVariants.Refused why
+  pub answered_refused : {why : negotiation.Refusal} → t.outcome ≡ negotiated.TheVariants.Refused why
       → answered_poll l r t tx rx ≡ declined (Negotiation why) (link_of r l.ppp) tx rx
   unfolding answered_poll
-  answered-refused e = ap (λ (o : negotiated.Outcome). by_outcome o l r t tx rx) e
+  answered_refused e = ap (λ (o : negotiated.Outcome). by_outcome o l r t tx rx) e
 
   pub answered-done : t.outcome ≡ negotiated.TheVariants.Done → answered_poll l r t tx rx ≡ written l r t tx rx
   unfolding answered_poll
@@ -89,13 +89,13 @@ turns_short {turn} h s few = rw h.replies (short_made turn.sent (omega (arith, s
 -- ---- what is received
 
 module _ (l : PPPoS) (r : FrameReader) (to : ℕ) (tx rx pkt : List ℕ) where
-  pub packet-ip : is_ip pkt ≡ true → packet_poll l r to tx rx pkt ≡ polled (Received 3 to) (link_of r l.ppp) tx rx
+  pub packet_ip : is_ip pkt ≡ true → packet_poll l r to tx rx pkt ≡ polled (Received 3 to) (link_of r l.ppp) tx rx
   unfolding packet_poll
-  packet-ip e = rw e refl
+  packet_ip e = rw e refl
 
-  pub packet-turn : is_ip pkt ≡ false → packet_poll l r to tx rx pkt ≡ answered_poll l r (turn_of l.ppp pkt) tx rx
+  pub packet_turn : is_ip pkt ≡ false → packet_poll l r to tx rx pkt ≡ answered_poll l r (turn_of l.ppp pkt) tx rx
   unfolding packet_poll
-  packet-turn e = rw e refl
+  packet_turn e = rw e refl
 
 -- what a fetch gives
 abbrev got_of : FrameReader → Got
@@ -134,14 +134,14 @@ by_got l tx rx r (Refused why) = declined (Framing why) (link_of r l.ppp) tx rx
 by_got l tx rx r Nothing = answered_poll l l.frame_reader (poll_of l.ppp) tx rx
 
 module _ (l : PPPoS) (tx rx : List ℕ) where
-  pub poll-short : length rx < l.frame_reader.len → poll_link l tx rx ≡ declined (Framing BufferShort) l tx rx
+  pub poll_short : length rx < l.frame_reader.len → poll_link l tx rx ≡ declined (Framing BufferShort) l tx rx
   unfolding poll_link
-  poll-short h = rw (lt-ltb (length rx) l.frame_reader.len h) refl
+  poll_short h = rw (lt-ltb (length rx) l.frame_reader.len h) refl
 
   module _ (room : l.frame_reader.len ≤ length rx) {g : Got} {next : FrameReader} (h : Receives l.frame_reader g next) where
-    poll-got : poll_link l tx rx ≡ by_got l tx rx next g
+    poll_got : poll_link l tx rx ≡ by_got l tx rx next g
     unfolding poll_link
-    poll-got =
+    poll_got =
         let r = l.frame_reader in
         by_test (is_complete r.state)
         (λ t.
@@ -154,13 +154,13 @@ module _ (l : PPPoS) (tx rx : List ℕ) where
         rw (le-ltb (length rx) r.len room, t, k) refl)
 
     pub poll-nothing : g ≡ Nothing → poll_link l tx rx ≡ answered_poll l l.frame_reader (poll_of l.ppp) tx rx
-    poll-nothing e = poll-got ∙ ap (by_got l tx rx next) e
+    poll-nothing e = poll_got ∙ ap (by_got l tx rx next) e
 
-    pub poll-refused : {why : framing.Refusal} → g ≡ Refused why → poll_link l tx rx ≡ declined (Framing why) (link_of next l.ppp) tx rx
-    poll-refused e = poll-got ∙ ap (by_got l tx rx next) e
+    pub poll_refused : {why : framing.Refusal} → g ≡ Refused why → poll_link l tx rx ≡ declined (Framing why) (link_of next l.ppp) tx rx
+    poll_refused e = poll_got ∙ ap (by_got l tx rx next) e
 
-    pub poll-packet : {from to : ℕ} → g ≡ Packet from to → poll_link l tx rx ≡ packet_poll l next to tx rx (take (to - 1) (drop 1 rx))
-    poll-packet e = poll-got ∙ ap (by_got l tx rx next) e
+    pub poll_packet_lem : {from to : ℕ} → g ≡ Packet from to → poll_link l tx rx ≡ packet_poll l next to tx rx (take (to - 1) (drop 1 rx))
+    poll_packet_lem e = poll_got ∙ ap (by_got l tx rx next) e
 
 -- ---- a transmit buffer that always suffices
 

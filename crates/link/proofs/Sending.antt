@@ -21,7 +21,7 @@ use Rattle.negotiation.specs.declared.replies.Replies.{Replies}
 use Rattle.phases.specs.Phases.{poll_of, turn_of}
 use Rattle.phases.specs.declared.ppp.Ppp.{Ppp}
 use Rattle.options.proofs.Fair as packet
-use Rattle.negotiation.proofs.Joining.{contents-next, contents-end}
+use Rattle.negotiation.proofs.Joining.{contents-next, contents_end}
 use Rattle.phases.proofs.Phasing.{poll_sends, turn_sends}
 use Rattle.link.specs.Frames.{every_byte, frames, max_frame, always_enough}
 
@@ -94,6 +94,6 @@ module _ (rs : Replies) (i : ℕ) where
     pub length-next : length (frames_from rs i) ≡ length next + length (frames_from rs (i + 1))
     length-next = ap length frames-next ∙ length-append next (frames_from rs (i + 1))
 
-  pub frames-end : rs.count ≤ i → frames_from rs i ≡ []
+  pub frames_end : rs.count ≤ i → frames_from rs i ≡ []
   unfolding frames
-  frames-end h = ap frames (contents-end rs i h)
+  frames_end h = ap frames (contents_end rs i h)

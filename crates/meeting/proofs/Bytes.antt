@@ -71,21 +71,21 @@ pub record Byte (e : End) (b : ℕ) : Type 0 where
   pub ends : full (step (hold e) b) ≡ true → Takes (feed e b)
 
 module _ (e : End) (b : ℕ) where
-  pub stepped-quiet : full (step (hold e) b) ≡ false → stepped e b ≡ feed e b
+  pub stepped_quiet : full (step (hold e) b) ≡ false → stepped e b ≡ feed e b
   unfolding stepped
-  stepped-quiet f = rw f
+  stepped_quiet f = rw f
 
-  pub says-quiet : full (step (hold e) b) ≡ false → says e b ≡ []
+  pub says_quiet : full (step (hold e) b) ≡ false → says e b ≡ []
   unfolding says
-  says-quiet f = rw f
+  says_quiet f = rw f
 
   pub stepped-full : full (step (hold e) b) ≡ true → stepped e b ≡ turned_end (feed e b)
   unfolding stepped
   stepped-full f = rw f
 
-  pub says-full : full (step (hold e) b) ≡ true → says e b ≡ frames (turn (feed e b)).sent
+  pub says_full : full (step (hold e) b) ≡ true → says e b ≡ frames (turn (feed e b)).sent
   unfolding says
-  says-full f = rw f
+  says_full f = rw f
 
 -- ---- a poll
 
@@ -95,7 +95,7 @@ fine e o n w = record { now = e; used = n; written = w; first = outcome_number o
 
 -- all frames are written from the front of the transmit buffer
 pub behind-turned : (l : PPPoS) (tx rx : List ℕ) (h : l.frame_reader.len ≤ length rx) (room : always_enough ≤ length tx) (o : Outcome) (n : ℕ) (r : FrameReader) (t : Turn) → t.echoed ≡ false
-    → behind o n (hearing.writtenPoll l tx rx h room r t) ≡ fine (end_of (link_of r t.ppp) rx) o n (frames t.sent)
+    → behind o n (hearing.written_poll l tx rx h room r t) ≡ fine (end_of (link_of r t.ppp) rx) o n (frames t.sent)
 behind-turned l tx rx h room o n r t e =
     rw (e, (sent_count (length (frames t.sent))).0, (sent_count (length (frames t.sent))).1, take-append_seam) refl
 
@@ -105,7 +105,7 @@ module _ (e : End) (tx : List ℕ) (room : always_enough ≤ length tx) (o : Out
   unfolding frames
   rests h =
       let r = e.link.frame_reader in
-      ap (behind o n) (hearing.poll-waits e.link tx e.rx h.within room h.empty)
+      ap (behind o n) (hearing.poll_waits e.link tx e.rx h.within room h.empty)
       ∙ behind-turned e.link tx e.rx h.within room o n r (poll_of e.link.ppp) refl
       ∙ ap (λ (t : Turn). fine (end_of (link_of r t.ppp) e.rx) o n (frames t.sent)) h.calm
 

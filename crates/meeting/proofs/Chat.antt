@@ -11,7 +11,7 @@ use Rattle.negotiation.specs.declared.states.State.TheVariants.{ReqSent, Opened}
 use Rattle.phases.specs.declared.ppp.Phase.TheVariants.{Network, Open}
 use Rattle.phases.specs.declared.ppp.Ppp.{Ppp}
 use Rattle.meeting.specs.Statement.{FourToSix}
-use Rattle.meeting.proofs.Moves.{hears, enters, grants, grants-last, denies, denied, denied-acked, granted, granted-last}
+use Rattle.meeting.proofs.Moves.{hears, enters, grants, grants_last, denies, denied, denied_acked, granted, granted_last}
 
 -- ---- where it ends
 
@@ -52,20 +52,20 @@ module _ (A B : Self) where
       (hello A ∷ lcp_packet 2 (next_id B.lcp_id) B ∷ ask (next_id A.ip_id) A m n ∷ [])
       (hello B ∷ lcp_packet 2 (next_id A.lcp_id) A ∷ ask (next_id B.ip_id) B m' n' ∷ [])
 
-  lcp-part : (m n m' n' : Bool) → Second m n m' n' → First m n m' n'
-  lcp-part m n m' n' h = at_a (hears A B m n) (at_b (hears B A m' n') (at_a (enters A B m n) (at_b (enters B A m' n') h)))
+  lcp_part : (m n m' n' : Bool) → Second m n m' n' → First m n m' n'
+  lcp_part m n m' n' h = at_a (hears A B m n) (at_b (hears B A m' n') (at_a (enters A B m n) (at_b (enters B A m' n') h)))
 
-  abbrev hearA : ℕ
-  hearA = heard B.address B.address_rej A.peer
+  abbrev hear_a : ℕ
+  hear_a = heard B.address B.address_rej A.peer
 
-  abbrev hearB : ℕ
-  hearB = heard A.address A.address_rej B.peer
+  abbrev hear_b : ℕ
+  hear_b = heard A.address A.address_rej B.peer
 
   -- each end knows what it heard, once or twice
-  once : (i : ℕ) → Settled A B (net A B Open i Opened hearA true true)
-  once i = record { id = i; peer = hearA; is = refl; hears = refl }
+  once : (i : ℕ) → Settled A B (net A B Open i Opened hear_a true true)
+  once i = record { id = i; peer = hear_a; is = refl; hears = refl }
 
-  twice : (i : ℕ) → Settled A B (net A B Open i Opened (heard B.address B.address_rej hearA) true true)
+  twice : (i : ℕ) → Settled A B (net A B Open i Opened (heard B.address B.address_rej hear_a) true true)
   twice i = record { id = i; peer = _; is = refl; hears = heard_twice B.address A.peer B.address_rej }
 
 -- neither sends a name server: four frames each
@@ -73,11 +73,11 @@ both_clean : (A B : Self) → First A B true true true true
 both_clean A B =
     let i : ℕ = A.ip_id in
     let j : ℕ = B.ip_id in
-    lcp-part A B true true true true
+    lcp_part A B true true true true
     (at_a (grants A B (next_id i) j A.peer true true)
     (at_b (grants B A (next_id j) i B.peer true true)
-    (at_a (granted-last A B (next_id i) i (hearA A B))
-    (at_b (granted-last B A (next_id j) j (hearB A B))
+    (at_a (granted_last A B (next_id i) i (hear_a A B))
+    (at_b (granted_last B A (next_id j) j (hear_b A B))
     (end (once A B (next_id i)) (once B A (next_id j)) (record { least = omega arith; most = omega arith }) (record { least = omega arith; most = omega arith }))))))
 
 -- one sends a name server, which is rejected: five frames each
@@ -85,13 +85,13 @@ dns_at_one : (A B : Self) (m n : Bool) → m && n ≡ false → First A B m n tr
 dns_at_one A B m n h =
     let i : ℕ = A.ip_id in
     let j : ℕ = B.ip_id in
-    lcp-part A B m n true true
+    lcp_part A B m n true true
     (at_a (grants A B (next_id i) j A.peer m n)
     (at_b (denies B A (next_id j) i B.peer true true m n h)
-    (at_b (granted B A (next_id j) j (hearB A B))
-    (at_a (denied-acked A B (next_id i) i (hearA A B) m n h)
-    (at_b (grants-last B A (next_id j) (next_id i) (hearB A B) true true)
-    (at_a (granted-last A B (next_id (next_id i)) (next_id i) (hearA A B))
+    (at_b (granted B A (next_id j) j (hear_b A B))
+    (at_a (denied_acked A B (next_id i) i (hear_a A B) m n h)
+    (at_b (grants_last B A (next_id j) (next_id i) (hear_b A B) true true)
+    (at_a (granted_last A B (next_id (next_id i)) (next_id i) (hear_a A B))
     (end (once A B (next_id (next_id i))) (twice B A (next_id j)) (record { least = omega arith; most = omega arith }) (record { least = omega arith; most = omega arith }))))))))
 
 -- both send one: six frames each
@@ -99,15 +99,15 @@ dns_at_both : (A B : Self) (m n m' n' : Bool) → m && n ≡ false → m' && n' 
 dns_at_both A B m n m' n' h h' =
     let i : ℕ = A.ip_id in
     let j : ℕ = B.ip_id in
-    lcp-part A B m n m' n'
+    lcp_part A B m n m' n'
     (at_a (denies A B (next_id i) j A.peer m n m' n' h')
     (at_b (denies B A (next_id j) i B.peer m' n' m n h)
-    (at_a (denied A B (next_id i) i (hearA A B) m n h)
-    (at_b (denied B A (next_id j) j (hearB A B) m' n' h')
-    (at_a (grants A B (next_id (next_id i)) (next_id j) (hearA A B) true true)
-    (at_b (grants B A (next_id (next_id j)) (next_id i) (hearB A B) true true)
-    (at_a (granted-last A B (next_id (next_id i)) (next_id i) _)
-    (at_b (granted-last B A (next_id (next_id j)) (next_id j) _)
+    (at_a (denied A B (next_id i) i (hear_a A B) m n h)
+    (at_b (denied B A (next_id j) j (hear_b A B) m' n' h')
+    (at_a (grants A B (next_id (next_id i)) (next_id j) (hear_a A B) true true)
+    (at_b (grants B A (next_id (next_id j)) (next_id i) (hear_b A B) true true)
+    (at_a (granted_last A B (next_id (next_id i)) (next_id i) _)
+    (at_b (granted_last B A (next_id (next_id j)) (next_id j) _)
     (end (twice A B (next_id (next_id i))) (twice B A (next_id (next_id j))) (record { least = omega arith; most = omega arith }) (record { least = omega arith; most = omega arith }))))))))))
 
 -- whichever name servers were rejected before

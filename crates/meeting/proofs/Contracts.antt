@@ -20,14 +20,14 @@ pub new_reaches : (name password : List ℕ) (c : Choices) {o : Outcome} {l : PP
 new_reaches name password c m = rw m.link (by_new name password)
 
 module _ {c : Choices} {l l' : PPPoS} (r : Reached c l) where
-  pub open-reaches : {o : Outcome} → Opens l o l' → Reached c l'
-  open-reaches m = rw m.link (by_open l r)
+  pub open_reaches : {o : Outcome} → Opens l o l' → Reached c l'
+  open_reaches m = rw m.link (by_open l r)
 
-  pub consume-reaches : (rx bs : List ℕ) {o : Outcome} {n : ℕ} {rx' : List ℕ} → Consumes l rx bs o n l' rx' → Reached c l'
-  consume-reaches rx bs m = rw m.link (by_consume l rx bs r)
+  pub consume_reaches : (rx bs : List ℕ) {o : Outcome} {n : ℕ} {rx' : List ℕ} → Consumes l rx bs o n l' rx' → Reached c l'
+  consume_reaches rx bs m = rw m.link (by_consume l rx bs r)
 
-  pub poll-reaches : (tx rx : List ℕ) {a : PPPoSAction} {tx' rx' : List ℕ} → Polls (poll_link l tx rx) a l' tx' rx' → Reached c l'
-  poll-reaches tx rx p = rw p.link (by_poll l tx rx r)
+  pub poll_reaches : (tx rx : List ℕ) {a : PPPoSAction} {tx' rx' : List ℕ} → Polls (poll_link l tx rx) a l' tx' rx' → Reached c l'
+  poll_reaches tx rx p = rw p.link (by_poll l tx rx r)
 
 -- ---- the statement's calls
 
@@ -36,12 +36,12 @@ abbrev pub answer_of : Outcome → ℕ → PPPoSAction → PPPoS → List ℕ �
 answer_of o n a l tx rx = record { now = end_of l rx; used = n; written = take (transmitted a) tx; first = outcome_number o; polled = action_number a }
 
 module _ (l : PPPoS) {o : Outcome} {l' : PPPoS} {a : PPPoSAction} {l'' : PPPoS} {tx' rx'' : List ℕ} (tx rx : List ℕ) where
-  pub opens-called : Opens l o l' → Polls (poll_link l' tx rx) a l'' tx' rx''
+  pub opens_called : Opens l o l' → Polls (poll_link l' tx rx) a l'' tx' rx''
       → answer_of o 0 a l'' tx' rx'' ≡ opens (end_of l rx) tx
   unfolding opens
-  opens-called c p = rw (p.action, p.link, p.transmit, p.receive, c.outcome, c.link) refl
+  opens_called c p = rw (p.action, p.link, p.transmit, p.receive, c.outcome, c.link) refl
 
-  pub takes-called : {bs : List ℕ} {n : ℕ} {rx' : List ℕ} → Consumes l rx bs o n l' rx' → Polls (poll_link l' tx rx') a l'' tx' rx''
+  pub takes_called : {bs : List ℕ} {n : ℕ} {rx' : List ℕ} → Consumes l rx bs o n l' rx' → Polls (poll_link l' tx rx') a l'' tx' rx''
       → answer_of o n a l'' tx' rx'' ≡ takes (end_of l rx) tx bs
   unfolding takes
-  takes-called c p = rw (p.action, p.link, p.transmit, p.receive, c.outcome, c.count, c.link, c.bytes) refl
+  takes_called c p = rw (p.action, p.link, p.transmit, p.receive, c.outcome, c.count, c.link, c.bytes) refl

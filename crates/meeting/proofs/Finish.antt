@@ -93,16 +93,16 @@ module _ {x y : End} {z : Net} (tx : List ℕ) (room : always_enough ≤ length 
       let q = ended (rw (e, f) at (along w r)) in
       record { last = m; run = r; empty_a = e; empty_b = f; met_a = met q.0; met_b = met q.1 }
 
-  finish-in : (k : ℕ) {m : Net} (r : Exchange z m) → 684 ≤ steps r + k → Finishes x y z
-  finish-in zero {m} r e =
+  finish_in : (k : ℕ) {m : Net} (r : Exchange z m) → 684 ≤ steps r + k → Finishes x y z
+  finish_in zero {m} r e =
       let paid = spent w h r in
       let most = written_narrow (along w r) in
       finished r (none m.to_a (omega arith)) (none m.to_b (omega arith))
-  finish-in (suc k) {m} r e =
+  finish_in (suc k) {m} r e =
       ⊎_elim
       (λ (p : (m.to_a ≡ []) × (m.to_b ≡ [])). finished r p.0 p.1)
-      (λ (t : More r). finish-in k t.run (omega (arith, t.one)))
+      (λ (t : More r). finish_in k t.run (omega (arith, t.one)))
       (more r tx room)
 
   pub finish : Finishes x y z
-  finish = finish-in 684 start (omega arith)
+  finish = finish_in 684 start (omega arith)

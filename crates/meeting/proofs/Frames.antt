@@ -9,23 +9,23 @@ use lib.ListN.{length}
 use Rattle.laws.specs.Each.{Each}
 use Rattle.laws.specs.Quiet.{Quiet, none, more}
 use Rattle.laws.proofs.Each.{each_append}
-use Rattle.laws.proofs.Quiet.{quiet-first, quiet-last}
+use Rattle.laws.proofs.Quiet.{quiet_first, quiet_last}
 use Rattle.framing.specs.Rfc1662.{frame}
 use Rattle.framing.specs.Reader.{Held, step, full}
 use Rattle.framing.specs.Heard.{fetched_in}
 use Rattle.framing.specs.Arrives.{Idle, Arrives}
-use Rattle.framing.proofs.Arrives.{idle-empty, arrives}
+use Rattle.framing.proofs.Arrives.{idle_empty, arrives}
 use Rattle.framing.proofs.Reader.{Kept, step_kept}
 use Rattle.phases.specs.Phases.{Turn, turn_to, turn_of}
 use Rattle.phases.specs.Sound.{Calm}
 use Rattle.meeting.proofs.Says.{Self, Small, AtMostOne, Moves}
 use Rattle.phases.specs.declared.ppp.Ppp.{Ppp}
-use Rattle.meeting.proofs.Moves.{open-calm}
+use Rattle.meeting.proofs.Moves.{open_calm}
 use Rattle.link.specs.Frames.{every_byte, frames}
 use Rattle.link.proofs.Sending.{frames-append}
 use Rattle.meeting.specs.Calls.{End}
 use Rattle.meeting.specs.Statement.{FourToSix}
-use Rattle.meeting.proofs.Bytes.{joined, turn, feed, Rest, stepped-quiet, says-quiet, stepped-full, says-full}
+use Rattle.meeting.proofs.Bytes.{joined, turn, feed, Rest, stepped_quiet, says_quiet, stepped-full, says_full}
 use Rattle.meeting.proofs.Diamond as diamond
 use Rattle.meeting.proofs.Diamond.{Ends, done, goes}
 use Rattle.meeting.proofs.Chat.{Settled, Chat, end, at_a, at_b}
@@ -49,9 +49,9 @@ module _ {Q : End → End → List ℕ → List ℕ → Type 0} {s : Ppp} (calm 
       → Ends Q (joined s h) b (body ++ w) v f g
   quietly (none e) k next = next k
   quietly {h} (more {b = x} e q) k next =
-      let silent = quiet-first step full q in
+      let silent = quiet_first step full q in
       goes (joined s (step h x)) [] v f (record { rest = resting calm l h e k; ends = λ t. absurd (false≢true (sym silent ∙ t)) })
-      (stepped-quiet (joined s h) x silent) (says-quiet (joined s h) x silent)
+      (stepped_quiet (joined s h) x silent) (says_quiet (joined s h) x silent)
       (simp append-nil (quietly q (step_kept l h x k) next))
 
 module _ {Q : End → End → List ℕ → List ℕ → Type 0} {s s' : Ppp} {x : List ℕ} {o : List (List ℕ)} (m : Moves s x s' o) {b : End} (u v f : List ℕ) {g : List ℕ} where
@@ -66,7 +66,7 @@ module _ {Q : End → End → List ℕ → List ℕ → Type 0} {s s' : Ppp} {x 
       let kept = step_kept l a.before a.last k in
       goes (joined s' (fetched_in (step a.before a.last))) (frames o) v f
       (record {
-        rest = resting m.calm l a.before (quiet-last step full a.quiet) k;
+        rest = resting m.calm l a.before (quiet_last step full a.quiet) k;
         ends = λ _.
             record {
               within = omega (arith, kept.room, kept.within);
@@ -77,7 +77,7 @@ module _ {Q : End → End → List ℕ → List ℕ → Type 0} {s s' : Ppp} {x 
             };
       })
       (stepped-full t a.last a.filled ∙ ap (λ (r : Turn). joined r.ppp (fetched_in (step a.before a.last))) is)
-      (says-full t a.last a.filled ∙ ap (λ (r : Turn). frames r.sent) is) e
+      (says_full t a.last a.filled ∙ ap (λ (r : Turn). frames r.sent) is) e
 
   pub lands : (h : Held) → Waits h → ((h' : Held) → Waits h' → Ends Q (joined s' h') b u (v ++ frames o) (f ++ frames o) g)
       → Ends Q (joined s h) b (frame every_byte x ++ u) v f g
@@ -101,7 +101,7 @@ abbrev pub Both : Self → Self → End → End → List ℕ → List ℕ → Ty
 Both A B a b f g = Told A B a f × Told B A b g
 
 settled_calm : {X Y : Self} {s : Ppp} → Settled X Y s → Calm s
-settled_calm {X} {Y} h = rw h.is (open-calm X Y h.id h.peer true true)
+settled_calm {X} {Y} h = rw h.is (open_calm X Y h.id h.peer true true)
 
 few_small : (o : List (List ℕ)) → AtMostOne o → Each Small o
 few_small [] h = tt
@@ -109,7 +109,7 @@ few_small (x ∷ []) h = (h, tt)
 few_small (x ∷ y ∷ o) h = absurd h
 
 at_rest : {X Y : Self} {s : Ppp} (h : Held) → Waits h → Settled X Y s → Rest (joined s h)
-at_rest h w t = resting (settled_calm t) (length h.buf) h (idle-empty w.idle) (waits_kept w)
+at_rest h w t = resting (settled_calm t) (length h.buf) h (idle_empty w.idle) (waits_kept w)
 
 -- a chat of frames is a way for bytes
 pub lower : {A B : Self} {a b : Ppp} {u v f g : List (List ℕ)} → Chat A B a b u v f g → Each Small f → Each Small g → (h k : Held) → Waits h → Waits k

@@ -42,23 +42,23 @@ side told z w =
 pub two_ends_meet : TwoEndsMeet
 two_ends_meet x y hx hy tx tx' room room' z r =
     record {
-      opens_a = rw startA (record { first = refl; polled = refl; framed = record { packets = _; whole = refl } });
-      opens_b = rw startB (record { first = refl; polled = refl; framed = record { packets = _; whole = refl } });
+      opens_a = rw start_a (record { first = refl; polled = refl; framed = record { packets = _; whole = refl } });
+      opens_b = rw start_b (record { first = refl; polled = refl; framed = record { packets = _; whole = refl } });
       at_a = side (λ a b f g q. q.0) z here;
       at_b = side (λ a b f g q. q.1) (flip z) (flipped here);
       bounded = omega (arith, paid, written_narrow here);
       finishes = finish tx room here (omega (arith, paid));
     }
   where
-    startA : Opens x tx
-    startA = opened hx (dead_closed hx.reached hx.dead) tx room
+    start_a : Opens x tx
+    start_a = opened hx (dead_closed hx.reached hx.dead) tx room
 
-    startB : Opens y tx'
-    startB = opened hy (dead_closed hy.reached hy.dead) tx' room'
+    start_b : Opens y tx'
+    start_b = opened hy (dead_closed hy.reached hy.dead) tx' room'
 
     way : Way (Both (self x) (self y)) (begun x y tx tx')
     way =
-        rw (startA, startB)
+        rw (start_a, start_b)
         (lower (chat (self x) (self y) (rejected1 x) (rejected2 x) (rejected1 y) (rejected2 y))
         ((hears (self y) (self x) true true).small, tt) ((hears (self x) (self y) true true).small, tt) (hold x) (hold y) (waits hx) (waits hy))
 

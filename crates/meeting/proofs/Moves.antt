@@ -117,62 +117,62 @@ module _ (X Y : Self) (m n : Bool) where
 
 -- in phase Network a phase step does nothing until IPv4CP is Opened
 module _ (X Y : Self) (k p : ℕ) (m n : Bool) where
-  sent-calm : Calm (net X Y Network k ReqSent p m n)
+  sent_calm : Calm (net X Y Network k ReqSent p m n)
   unfolding opened
-  sent-calm = refl
+  sent_calm = refl
 
-  received-calm : Calm (net X Y Network k AckReceived p m n)
+  received_calm : Calm (net X Y Network k AckReceived p m n)
   unfolding opened
-  received-calm = refl
+  received_calm = refl
 
-  acked-calm : Calm (net X Y Network k AckSent p m n)
+  acked_calm : Calm (net X Y Network k AckSent p m n)
   unfolding opened
-  acked-calm = refl
+  acked_calm = refl
 
-  pub open-calm : Calm (net X Y Open k Opened p m n)
+  pub open_calm : Calm (net X Y Open k Opened p m n)
   unfolding opened
-  open-calm = refl
+  open_calm = refl
 
   -- a request for the address alone, or for nothing
-  ip-clean : (i a d e : ℕ) (r : Bool)
+  ip_clean : (i a d e : ℕ) (r : Bool)
       → turn_of (net X Y Network k ReqSent p m n) (packet_of 0x8021 1 i (offer 3 a r ++ (offer 129 d true ++ offer 131 e true)))
       ≡ turn_to (net X Y Network k AckSent (heard a r p) m n) (packet_of 0x8021 2 i (offer 3 a r ++ (offer 129 d true ++ offer 131 e true)) ∷ [])
   unfolding opened
-  ip-clean i a d e true = refl
-  ip-clean i a d e false = refl
+  ip_clean i a d e true = refl
+  ip_clean i a d e false = refl
 
-  ip-clean-last : (i a d e : ℕ) (r : Bool)
+  ip_clean_last : (i a d e : ℕ) (r : Bool)
       → turn_of (net X Y Network k AckReceived p m n) (packet_of 0x8021 1 i (offer 3 a r ++ (offer 129 d true ++ offer 131 e true)))
       ≡ turn_to (net X Y Open k Opened (heard a r p) m n) (packet_of 0x8021 2 i (offer 3 a r ++ (offer 129 d true ++ offer 131 e true)) ∷ [])
   unfolding opened
-  ip-clean-last i a d e true = refl
-  ip-clean-last i a d e false = refl
+  ip_clean_last i a d e true = refl
+  ip_clean_last i a d e false = refl
 
   -- a request with a name server gets a Rej of those
-  ip-dns : (i a d e : ℕ) (r m' n' : Bool) → m' && n' ≡ false
+  ip_dns : (i a d e : ℕ) (r m' n' : Bool) → m' && n' ≡ false
       → turn_of (net X Y Network k ReqSent p m n) (packet_of 0x8021 1 i (offer 3 a r ++ (offer 129 d m' ++ offer 131 e n')))
       ≡ turn_to (net X Y Network k ReqSent (heard a r p) m n) (packet_of 0x8021 4 i (offer 129 d m' ++ offer 131 e n') ∷ [])
   unfolding opened
-  ip-dns i a d e true true true h = absurd (true≢false h)
-  ip-dns i a d e true true false h = refl
-  ip-dns i a d e true false true h = refl
-  ip-dns i a d e true false false h = refl
-  ip-dns i a d e false true true h = absurd (true≢false h)
-  ip-dns i a d e false true false h = refl
-  ip-dns i a d e false false true h = refl
-  ip-dns i a d e false false false h = refl
+  ip_dns i a d e true true true h = absurd (true≢false h)
+  ip_dns i a d e true true false h = refl
+  ip_dns i a d e true false true h = refl
+  ip_dns i a d e true false false h = refl
+  ip_dns i a d e false true true h = absurd (true≢false h)
+  ip_dns i a d e false true false h = refl
+  ip_dns i a d e false false true h = refl
+  ip_dns i a d e false false false h = refl
 
-  ip-ack : (i a d e : ℕ) (r : Bool)
+  ip_ack : (i a d e : ℕ) (r : Bool)
       → turn_of (net X Y Network k ReqSent p m n) (packet_of 0x8021 2 i (offer 3 a r ++ (offer 129 d true ++ offer 131 e true))) ≡ turn_to (net X Y Network k AckReceived p m n) []
   unfolding opened
-  ip-ack i a d e true = refl
-  ip-ack i a d e false = refl
+  ip_ack i a d e true = refl
+  ip_ack i a d e false = refl
 
-  ip-ack-last : (i a d e : ℕ) (r : Bool)
+  ip_ack_last : (i a d e : ℕ) (r : Bool)
       → turn_of (net X Y Network k AckSent p m n) (packet_of 0x8021 2 i (offer 3 a r ++ (offer 129 d true ++ offer 131 e true))) ≡ turn_to (net X Y Open k Opened p m n) []
   unfolding opened
-  ip-ack-last i a d e true = refl
-  ip-ack-last i a d e false = refl
+  ip_ack_last i a d e true = refl
+  ip_ack_last i a d e false = refl
 
 -- a Rej of the own name servers: they are dropped, and a request without them follows
 ip_rej : (X Y : Self) (k p i : ℕ) (m n : Bool) → m && n ≡ false
@@ -205,40 +205,40 @@ module _ (X Y : Self) (k i p : ℕ) (m n : Bool) where
   pub grants : Moves (net X Y Network k ReqSent p m n) (ask (next_id i) Y true true) (net X Y Network k AckSent (heard Y.address Y.address_rej p) m n) (grant (next_id i) Y ∷ [])
   grants =
       record {
-        calm = sent-calm X Y k p m n;
+        calm = sent_calm X Y k p m n;
         small = asks_small Y i true true;
         few = grants_small Y i;
-        is = ip-clean X Y k p m n (next_id i) Y.address Y.dns1 Y.dns2 Y.address_rej;
+        is = ip_clean X Y k p m n (next_id i) Y.address Y.dns1 Y.dns2 Y.address_rej;
       }
 
-  pub grants-last : Moves (net X Y Network k AckReceived p m n) (ask (next_id i) Y true true) (net X Y Open k Opened (heard Y.address Y.address_rej p) m n) (grant (next_id i) Y ∷ [])
-  grants-last =
+  pub grants_last : Moves (net X Y Network k AckReceived p m n) (ask (next_id i) Y true true) (net X Y Open k Opened (heard Y.address Y.address_rej p) m n) (grant (next_id i) Y ∷ [])
+  grants_last =
       record {
-        calm = received-calm X Y k p m n;
+        calm = received_calm X Y k p m n;
         small = asks_small Y i true true;
         few = grants_small Y i;
-        is = ip-clean-last X Y k p m n (next_id i) Y.address Y.dns1 Y.dns2 Y.address_rej;
+        is = ip_clean_last X Y k p m n (next_id i) Y.address Y.dns1 Y.dns2 Y.address_rej;
       }
 
   pub denies : (m' n' : Bool) → m' && n' ≡ false
       → Moves (net X Y Network k ReqSent p m n) (ask (next_id i) Y m' n') (net X Y Network k ReqSent (heard Y.address Y.address_rej p) m n) (deny (next_id i) Y m' n' ∷ [])
   denies m' n' h =
       record {
-        calm = sent-calm X Y k p m n;
+        calm = sent_calm X Y k p m n;
         small = asks_small Y i m' n';
         few = denies_small Y i m' n';
-        is = ip-dns X Y k p m n (next_id i) Y.address Y.dns1 Y.dns2 Y.address_rej m' n' h;
+        is = ip_dns X Y k p m n (next_id i) Y.address Y.dns1 Y.dns2 Y.address_rej m' n' h;
       }
 
   pub denied : m && n ≡ false → Moves (net X Y Network k ReqSent p m n) (deny (next_id i) X m n) (net X Y Network (next_id k) ReqSent p true true) (ask (next_id k) X true true ∷ [])
-  denied h = record { calm = sent-calm X Y k p m n; small = denies_small X i m n; few = asks_small X k true true; is = ip_rej X Y k p (next_id i) m n h }
+  denied h = record { calm = sent_calm X Y k p m n; small = denies_small X i m n; few = asks_small X k true true; is = ip_rej X Y k p (next_id i) m n h }
 
-  pub denied-acked : m && n ≡ false → Moves (net X Y Network k AckSent p m n) (deny (next_id i) X m n) (net X Y Network (next_id k) AckSent p true true) (ask (next_id k) X true true ∷ [])
-  denied-acked h = record { calm = acked-calm X Y k p m n; small = denies_small X i m n; few = asks_small X k true true; is = ip_rej_acked X Y k p (next_id i) m n h }
+  pub denied_acked : m && n ≡ false → Moves (net X Y Network k AckSent p m n) (deny (next_id i) X m n) (net X Y Network (next_id k) AckSent p true true) (ask (next_id k) X true true ∷ [])
+  denied_acked h = record { calm = acked_calm X Y k p m n; small = denies_small X i m n; few = asks_small X k true true; is = ip_rej_acked X Y k p (next_id i) m n h }
 
 module _ (X Y : Self) (k i p : ℕ) where
   pub granted : Moves (net X Y Network k ReqSent p true true) (grant (next_id i) X) (net X Y Network k AckReceived p true true) []
-  granted = record { calm = sent-calm X Y k p true true; small = grants_small X i; few = tt; is = ip-ack X Y k p true true (next_id i) X.address X.dns1 X.dns2 X.address_rej }
+  granted = record { calm = sent_calm X Y k p true true; small = grants_small X i; few = tt; is = ip_ack X Y k p true true (next_id i) X.address X.dns1 X.dns2 X.address_rej }
 
-  pub granted-last : Moves (net X Y Network k AckSent p true true) (grant (next_id i) X) (net X Y Open k Opened p true true) []
-  granted-last = record { calm = acked-calm X Y k p true true; small = grants_small X i; few = tt; is = ip-ack-last X Y k p true true (next_id i) X.address X.dns1 X.dns2 X.address_rej }
+  pub granted_last : Moves (net X Y Network k AckSent p true true) (grant (next_id i) X) (net X Y Open k Opened p true true) []
+  granted_last = record { calm = acked_calm X Y k p true true; small = grants_small X i; few = tt; is = ip_ack_last X Y k p true true (next_id i) X.address X.dns1 X.dns2 X.address_rej }

@@ -6,7 +6,7 @@ use mathlib.Core.List.{List, [], ◌∷◌}
 use Prim.Native.Nat.{ℕ, ◌≤◌}
 use native.Mathlib.Omega.{arith}
 use lib.ListN.{length}
-use Rattle.framing.proofs.Arrives.{idle-empty}
+use Rattle.framing.proofs.Arrives.{idle_empty}
 use Rattle.phases.specs.Phases.{Turn, open_of, poll_of}
 use Rattle.meeting.proofs.Says as moves
 use Rattle.meeting.proofs.Says.{Self, self_of, hello}
@@ -15,7 +15,7 @@ use Rattle.meeting.proofs.Moves.{begins}
 use Rattle.link.specs.Frames.{frames, always_enough}
 use Rattle.link.specs.Link.{link_of, outcome_of, open_link}
 use Rattle.link.specs.declared.refusal.Outcome.TheVariants.{Done}
-use Rattle.link.proofs.Hearing.{poll-waits}
+use Rattle.link.proofs.Hearing.{poll_waits}
 use Rattle.meeting.specs.Calls.{End, end_of, behind, opens}
 use Rattle.meeting.specs.Statement.{Ready}
 use Rattle.meeting.proofs.Bytes.{hold, joined, fine, behind-turned}
@@ -45,7 +45,7 @@ opened {x} h closed tx room =
     let r = l.frame_reader in
     let within : r.len ≤ length x.rx = omega (arith, h.nothing_kept) in
     let o = outcome_of (open_of l.ppp).outcome in
-    ap (behind o 0) (poll-waits (open_link l) tx x.rx within room (idle-empty (waits h).idle))
+    ap (behind o 0) (poll_waits (open_link l) tx x.rx within room (idle_empty (waits h).idle))
     ∙ behind-turned (open_link l) tx x.rx within room o 0 r (poll_of (open_of l.ppp).ppp) refl
     ∙ ap (λ (t : Turn). fine (end_of (link_of r t.ppp) x.rx) o 0 (frames t.sent)) (begins l.ppp h.dead closed)
     ∙ rw h.dead refl

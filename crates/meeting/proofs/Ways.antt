@@ -17,7 +17,7 @@ use Rattle.link.specs.declared.refusal.Outcome.{Outcome}
 use Rattle.link.specs.declared.refusal.Outcome.TheVariants.{Done}
 use Rattle.meeting.specs.Calls.{End, Answer, behind, takes, Net, flip, passed_on, Exchange, start, at_a, at_b, one_unless_empty, steps}
 use Rattle.meeting.specs.Statement.{Framed, Unrefused}
-use Rattle.meeting.proofs.Bytes.{hold, feed, turn, Rest, stepped-quiet, says-quiet, stepped-full, says-full, rests, replies}
+use Rattle.meeting.proofs.Bytes.{hold, feed, turn, Rest, stepped_quiet, says_quiet, stepped-full, says_full, rests, replies}
 use Rattle.meeting.proofs.Diamond.{Ends, flipped, next, readable, resting}
 
 -- ---- one call
@@ -43,8 +43,8 @@ module _ {Q : End → End → List ℕ → List ℕ → Type 0} (tx : List ℕ) 
       rw (fed-step (hold a) x c (resting e).empty)
       (by_test (full (step (hold a) x))
       (λ t. rw (fed_stop (step (hold a) x) c t, replies (feed a x) tx room o n t ((readable e).ends t))
-      (record { way = rw (stepped-full a x t, says-full a x t) at (next e); polled = refl; framed = record { packets = (turn (feed a x)).sent; whole = refl } }))
-      (λ t. served c r {a = feed a x} {v = v} {f = f} (simp append-nil at (rw (stepped-quiet a x t, says-quiet a x t) at (next e)))))
+      (record { way = rw (stepped-full a x t, says_full a x t) at (next e); polled = refl; framed = record { packets = (turn (feed a x)).sent; whole = refl } }))
+      (λ t. served c r {a = feed a x} {v = v} {f = f} (simp append-nil at (rw (stepped_quiet a x t, says_quiet a x t) at (next e)))))
 
 -- what a call that is handed c of the bytes c ++ r comes to
 pub record Passed (Q : End → End → List ℕ → List ℕ → Type 0) (b : End) (c r v f g : List ℕ) (got : Answer) : Type 0 where

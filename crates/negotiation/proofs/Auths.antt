@@ -11,7 +11,7 @@ use Rattle.negotiation.specs.declared.pap.PapState.TheVariants.{Closed, ReqSent,
 use Rattle.negotiation.specs.declared.auth.Auth.{Auth}
 use Rattle.negotiation.specs.Pap.{is_pap_closed, is_pap_sent, is_pap_opened, with_pap_state, PapReaction, pap_requested, pap_act_of, pap_handle_of, opened_pap}
 use Rattle.negotiation.specs.Auth.{auth_after, is_auth_closed, is_auth_sent, is_auth_opened, auth_handle_of, opened_auth, closed_auth}
-use Rattle.negotiation.proofs.Sends.{Sends, pap-sends, pap-opened-sends}
+use Rattle.negotiation.proofs.Sends.{Sends, pap-sends, pap_opened_sends}
 
 -- ---- the three tests
 
@@ -31,17 +31,17 @@ sent_is ReqSent e = refl
 sent_is Opened e = absurd (false≢true e)
 
 module _ (a : Auth) where
-  pub closed-unsent : is_auth_closed a ≡ true → is_auth_sent a ≡ false
+  pub closed_unsent : is_auth_closed a ≡ true → is_auth_sent a ≡ false
   unfolding is_auth_closed is_auth_sent
-  closed-unsent e = ap is_pap_sent (closed_is a.pap.state e)
+  closed_unsent e = ap is_pap_sent (closed_is a.pap.state e)
 
-  pub opened-unsent : is_auth_opened a ≡ true → is_auth_sent a ≡ false
+  pub opened_unsent : is_auth_opened a ≡ true → is_auth_sent a ≡ false
   unfolding is_auth_opened is_auth_sent
-  opened-unsent e = ap is_pap_sent (opened_is a.pap.state e)
+  opened_unsent e = ap is_pap_sent (opened_is a.pap.state e)
 
-  pub sent-unopened : is_auth_sent a ≡ true → is_auth_opened a ≡ false
+  pub sent_unopened : is_auth_sent a ≡ true → is_auth_opened a ≡ false
   unfolding is_auth_opened is_auth_sent
-  sent-unopened e = ap is_pap_opened (sent_is a.pap.state e)
+  sent_unopened e = ap is_pap_opened (sent_is a.pap.state e)
 
   -- ---- opened and closed
 
@@ -49,23 +49,23 @@ module _ (a : Auth) where
   unfolding is_auth_sent opened_auth opened_pap pap_requested
   opens-sent = refl
 
-  pub closes-closed : is_auth_closed (closed_auth a) ≡ true
+  pub closes_closed : is_auth_closed (closed_auth a) ≡ true
   unfolding is_auth_closed closed_auth
-  closes-closed = refl
+  closes_closed = refl
 
-  pub closes-same : is_auth_closed a ≡ true → closed_auth a ≡ a
+  pub closes_same : is_auth_closed a ≡ true → closed_auth a ≡ a
   unfolding is_auth_closed closed_auth
-  closes-same e i = auth_after a (with_pap_state a.pap (sym (closed_is a.pap.state e) i))
+  closes_same e i = auth_after a (with_pap_state a.pap (sym (closed_is a.pap.state e) i))
 
   -- ---- how much is sent
 
-  pub auth-sends : (pkt : List ℕ) → Sends 2 (auth_handle_of a pkt).sent
+  pub auth_sends : (pkt : List ℕ) → Sends 2 (auth_handle_of a pkt).sent
   unfolding auth_handle_of
-  auth-sends = pap-sends a.credentials a.pap
+  auth_sends = pap-sends a.credentials a.pap
 
-  pub auth-opened-sends : Sends 1 (opened_auth a).sent
+  pub auth_opened_sends : Sends 1 (opened_auth a).sent
   unfolding opened_auth
-  auth-opened-sends = pap-opened-sends a.credentials a.pap
+  auth_opened_sends = pap_opened_sends a.credentials a.pap
 
 -- ---- what a received packet leaves
 

@@ -33,9 +33,9 @@ pub one_reply : {r s : Replies} {q : Packet} (l : List ℕ) → r ≡ replies_of
 one_reply l er eq es = es ∙ rw (er, eq) (add_replies [] l (lit< tt))
 
 module _ {g : OptionFsm} {t : State} {r : Replies} (f : OptionFsm) (et : t ≡ after_ack f.state) (eg : g ≡ with_state f t) (er : r ≡ replies_of []) where
-  pub ack-resent : {h : Handled} → ack_resends f.state ≡ true → h ≡ requested_in g r → h ≡ handled (ack_of f)
+  pub ack_resent : {h : Handled} → ack_resends f.state ≡ true → h ≡ requested_in g r → h ≡ handled (ack_of f)
   unfolding ack_of
-  ack-resent k e = e ∙ rw (er, requested-behind g [] (lit< tt), eg, et, k) refl
+  ack_resent k e = e ∙ rw (er, requested-behind g [] (lit< tt), eg, et, k) refl
 
   pub ack-taken : ack_resends f.state ≡ false
       → ◌≡◌ {A = Handled} (record { outcome = Done; echoed = false; fsm = g; replies = r }) (handled (ack_of f))
@@ -48,14 +48,14 @@ unfolding req_with
 req_refused f i r e k = rw e k
 
 module _ {g : OptionFsm} {s : Replies} (f : OptionFsm) (i : ℕ) (r : Reply) (e : r.outcome ≡ Done) (eg : g ≡ after_reply f r) (es : s ≡ replies_of (reply_bytes i r ∷ [])) where
-  pub req-resent : {h : Handled} → is_opened f.state ≡ true → h ≡ requested_in g s → h ≡ handled (req_with f i r)
+  pub req_resent : {h : Handled} → is_opened f.state ≡ true → h ≡ requested_in g s → h ≡ handled (req_with f i r)
   unfolding req_with
-  req-resent k eh = eh ∙ rw (es, requested-behind g (reply_bytes i r ∷ []) (lit< tt), eg, e, k) refl
+  req_resent k eh = eh ∙ rw (es, requested-behind g (reply_bytes i r ∷ []) (lit< tt), eg, e, k) refl
 
-  pub req-kept : is_opened f.state ≡ false
+  pub req_kept : is_opened f.state ≡ false
       → ◌≡◌ {A = Handled} (record { outcome = Done; echoed = false; fsm = g; replies = s }) (handled (req_with f i r))
   unfolding req_with
-  req-kept k = rw (es, eg, e, k) refl
+  req_kept k = rw (es, eg, e, k) refl
 
 pub nack_refused : {why : Refusal} {h : Handled} (f : OptionFsm) (n : Nacked) → n.outcome ≡ Refused why
     → h ≡ handled (refusal_of f why) → h ≡ handled (nack_with f n)
@@ -77,18 +77,18 @@ module _ {n : ℕ} {h : Handled} (f : OptionFsm) (p : List ℕ) (l : 6 ≤ lengt
   unfolding handle_of
   handle-over k eh = rw (le-ltb _ _ l, ← e, lt-ltb _ _ k) eh
 
-  pub handle-in : n ≤ length p → h ≡ handled (act_of f (get_or p 2 0) (get_or p 3 0) (take n p)) → h ≡ handled (handle_of f p)
+  pub handle_in : n ≤ length p → h ≡ handled (act_of f (get_or p 2 0) (get_or p 3 0) (take n p)) → h ≡ handled (handle_of f p)
   unfolding handle_of
-  handle-in k eh = rw (le-ltb _ _ l, ← e, le-ltb _ _ k) eh
+  handle_in k eh = rw (le-ltb _ _ l, ← e, le-ltb _ _ k) eh
 
 module _ (f : OptionFsm) (p : List ℕ) where
-  pub echo-not : is_opened f.state ≡ false → ignore_of f ≡ echo_of f p
+  pub echo_not : is_opened f.state ≡ false → ignore_of f ≡ echo_of f p
   unfolding echo_of
-  echo-not k = rw k refl
+  echo_not k = rw k refl
 
-  pub echo-short : is_opened f.state ≡ true → length p < 3 → refusal_of f EchoEmpty ≡ echo_of f p
+  pub echo_short : is_opened f.state ≡ true → length p < 3 → refusal_of f EchoEmpty ≡ echo_of f p
   unfolding echo_of
-  echo-short k h = rw (k, lt-ltb _ _ h) refl
+  echo_short k h = rw (k, lt-ltb _ _ h) refl
 
   pub echo-long : is_opened f.state ≡ true → 3 ≤ length p → max_packet < length p → refusal_of f ReplyLong ≡ echo_of f p
   unfolding echo_of

@@ -48,11 +48,11 @@ contents_made ps = rw (first_made ps) (each_back ps)
 
 pub short_made : (ps : List (List ℕ)) → length ps ≤ max_replies → Each packet.Short ps → Short (replies_of ps)
 unfolding replies_of
-short_made ps few short = record { few = few; each = rw (first_made ps) (each-short ps short) }
+short_made ps few short = record { few = few; each = rw (first_made ps) (each_short ps short) }
   where
-    each-short : (ps : List (List ℕ)) → Each packet.Short ps → Each (λ (p : Packet). p.len ≤ max_packet) (map pkt_of ps)
-    each-short [] h = tt
-    each-short (p ∷ ps) h = (rw (len_pkt p) h.0, each-short ps h.1)
+    each_short : (ps : List (List ℕ)) → Each packet.Short ps → Each (λ (p : Packet). p.len ≤ max_packet) (map pkt_of ps)
+    each_short [] h = tt
+    each_short (p ∷ ps) h = (rw (len_pkt p) h.0, each_short ps h.1)
 
 module _ (rs : Replies) (i : ℕ) where
   abbrev first : List Packet
@@ -68,14 +68,14 @@ module _ (rs : Replies) (i : ℕ) where
     contents-next =
         rw (drop-cons (map content_of first) i (content_of d) (omega (arith, within, length-map first content_of)), get_or-map content_of first i d, get_or-take rs.count rs.packets i d h, add-one i) refl
 
-    pub short-at : Short rs → (get_or rs.packets i d).len ≤ max_packet
-    short-at s =
+    pub short_at : Short rs → (get_or rs.packets i d).len ≤ max_packet
+    short_at s =
         let P : Packet → Type 0 = λ p. p.len ≤ max_packet in
         rw (get_or-take rs.count rs.packets i d h) at (each_right P (take i first) (get_or first i d ∷ drop (suc i) first) (rw (split_at first i d within) at s.each)).0
 
-  pub contents-end : rs.count ≤ i → drop i (contents rs) ≡ []
+  pub contents_end : rs.count ≤ i → drop i (contents rs) ≡ []
   unfolding contents
-  contents-end h =
+  contents_end h =
       let e : length (map content_of first) ≤ i = omega (arith, length-map first content_of, length-take rs.count rs.packets) in
       drop_of_length-le (map content_of first) e
 

@@ -38,18 +38,18 @@ pap_short c p =
 -- ---- a step, by cases
 
 module _ (c : Credentials) (p : Pap) (code : ℕ) where
-  pub act-idle : is_pap_sent p.state ≡ false → pap_act_of c p code ≡ pap_reacts p []
+  pub act_idle : is_pap_sent p.state ≡ false → pap_act_of c p code ≡ pap_reacts p []
   unfolding pap_act_of
-  act-idle e = rw e refl
+  act_idle e = rw e refl
 
-  pub act-ack : is_pap_sent p.state ≡ true → code ≡ 2 → pap_act_of c p code ≡ pap_reacts (with_pap_state p Opened) []
+  pub act_ack : is_pap_sent p.state ≡ true → code ≡ 2 → pap_act_of c p code ≡ pap_reacts (with_pap_state p Opened) []
   unfolding pap_act_of
-  act-ack e f = rw (e, eq-eqb code 2 f) refl
+  act_ack e f = rw (e, eq-eqb code 2 f) refl
 
-  pub act-nack : is_pap_sent p.state ≡ true → code ≡ 3 → pap_act_of c p code ≡ pap_requested c p
+  pub act_nack : is_pap_sent p.state ≡ true → code ≡ 3 → pap_act_of c p code ≡ pap_requested c p
   unfolding pap_act_of
-  act-nack e f = rw (e, f) refl
+  act_nack e f = rw (e, f) refl
 
-  pub act-other : is_pap_sent p.state ≡ true → (code ≡ 2 → ⊥) → (code ≡ 3 → ⊥) → pap_act_of c p code ≡ pap_reacts p []
+  pub act_other : is_pap_sent p.state ≡ true → (code ≡ 2 → ⊥) → (code ≡ 3 → ⊥) → pap_act_of c p code ≡ pap_reacts p []
   unfolding pap_act_of
-  act-other e f g = rw (e, ne_eqb code 2 f, ne_eqb code 3 g) refl
+  act_other e f g = rw (e, ne_eqb code 2 f, ne_eqb code 3 g) refl

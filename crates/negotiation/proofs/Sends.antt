@@ -12,7 +12,7 @@ use Rattle.options.specs.Wire.{max_packet, length_field}
 use Rattle.negotiation.specs.Automaton.{handle_of, protocol_reject_of, opened_fsm}
 use Rattle.negotiation.specs.Pap.{is_pap_sent, with_pap_state, PapReaction, pap_bytes, pap_requested, pap_act_of, pap_handle_of, opened_pap}
 use Rattle.options.proofs.Fair.{Short}
-use Rattle.negotiation.proofs.Proper.{proper-handle, proper-reject, proper-opened, opened_one}
+use Rattle.negotiation.proofs.Proper.{proper_handle, proper_reject, proper_opened, opened_one}
 use Rattle.negotiation.proofs.Paps.{pap_short}
 
 -- at most n packets, each of at most max_packet bytes
@@ -31,13 +31,13 @@ sends_both a b p q = record { few = rw length-append (omega arith); short = each
 
 module _ (f : OptionFsm) where
   pub handle-sends : (pkt : List ℕ) → Sends 2 (handle_of f pkt).sent
-  handle-sends pkt = record { few = (proper-handle f pkt).few; short = (proper-handle f pkt).short }
+  handle-sends pkt = record { few = (proper_handle f pkt).few; short = (proper_handle f pkt).short }
 
   pub reject-sends : (pkt : List ℕ) → Sends 2 (protocol_reject_of f pkt).sent
-  reject-sends pkt = record { few = (proper-reject f pkt).few; short = (proper-reject f pkt).short }
+  reject-sends pkt = record { few = (proper_reject f pkt).few; short = (proper_reject f pkt).short }
 
   pub opened-sends : Sends 1 (opened_fsm f).sent
-  opened-sends = record { few = omega (arith, opened_one f); short = (proper-opened f).short }
+  opened-sends = record { few = omega (arith, opened_one f); short = (proper_opened f).short }
 
 module _ (c : Credentials) (p : Pap) where
   pub pap-sends : (pkt : List ℕ) → Sends 2 (pap_handle_of c p pkt).sent
@@ -52,6 +52,6 @@ module _ (c : Credentials) (p : Pap) where
       (cond_all P (ltb (length pkt) (length_field pkt + 2)) none
       (cond_all P (s && eqb code 2) none (cond_all P (s && eqb code 3) (sends_one 1 (pap_bytes c p) (pap_short c p)) none))))
 
-  pub pap-opened-sends : Sends 1 (opened_pap c p).sent
+  pub pap_opened_sends : Sends 1 (opened_pap c p).sent
   unfolding opened_pap pap_requested
-  pap-opened-sends = let q = with_pap_state p ReqSent in sends_one 0 (pap_bytes c q) (pap_short c q)
+  pap_opened_sends = let q = with_pap_state p ReqSent in sends_one 0 (pap_bytes c q) (pap_short c q)

@@ -94,69 +94,69 @@ module _ (f : OptionFsm) (i : ℕ) (p : List ℕ) where
   abbrev Goes : State → Bool → Reaction → Type 0
   Goes to asks t = t.outcome ≡ Done → Moved f to asks t
 
-  refused-goes : {to : State} {asks : Bool} (why : Refusal) → Goes to asks (refusal_of f why)
-  refused-goes why e = absurd (let z : ◌≡◌ {A = ℕ} 0 1 = cc in omega arith)
+  refused_goes : {to : State} {asks : Bool} (why : Refusal) → Goes to asks (refusal_of f why)
+  refused_goes why e = absurd (let z : ◌≡◌ {A = ℕ} 0 1 = cc in omega arith)
 
-  unless-goes : (to : State) (asks : Bool) (o : Outcome) (t : Reaction) → Goes to asks t → Goes to asks (unless o f t)
-  unless-goes to asks Done t h = h
-  unless-goes to asks (Refused why) t h = refused-goes why
+  unless_goes : (to : State) (asks : Bool) (o : Outcome) (t : Reaction) → Goes to asks t → Goes to asks (unless o f t)
+  unless_goes to asks Done t h = h
+  unless_goes to asks (Refused why) t h = refused_goes why
 
-  requested-goes : (g : OptionFsm) (ps : List (List ℕ)) → g.id ≡ f.id → Goes g.state true (requested g ps)
+  requested_goes : (g : OptionFsm) (ps : List (List ℕ)) → g.id ≡ f.id → Goes g.state true (requested g ps)
   unfolding requested
-  requested-goes g ps e _ =
+  requested_goes g ps e _ =
       record { state = refl; id = rw e refl; request = λ _. get_or_at ps (request_bytes g.proto (next_id g.id)) [] [] _ (rw length-append (omega arith)) }
 
-  reacts-goes : (g : OptionFsm) (ps : List (List ℕ)) → g.id ≡ f.id → Goes g.state false (reacts g ps)
-  reacts-goes g ps e _ = record { state = refl; id = e; request = λ x. absurd (false≢true x) }
+  reacts_goes : (g : OptionFsm) (ps : List (List ℕ)) → g.id ≡ f.id → Goes g.state false (reacts g ps)
+  reacts_goes g ps e _ = record { state = refl; id = e; request = λ x. absurd (false≢true x) }
 
   -- Closed answers by TerminateAck, the other states by t
-  closed-goes : (e : Event) (t : Reaction) → (is_closed f.state ≡ false → Goes (after_of e f.state) (asks_of e f.state) t)
+  closed_goes : (e : Event) (t : Reaction) → (is_closed f.state ≡ false → Goes (after_of e f.state) (asks_of e f.state) t)
       → Goes (after_of e f.state) (asks_of e f.state) (cond (is_closed f.state) (term_ack_of f i) t)
   unfolding term_ack_of
-  closed-goes e t h = cond_by (Goes (after_of e f.state) (asks_of e f.state)) (is_closed f.state) shut h
+  closed_goes e t h = cond_by (Goes (after_of e f.state) (asks_of e f.state)) (is_closed f.state) shut h
     where
       shut : is_closed f.state ≡ true → Goes (after_of e f.state) (asks_of e f.state) (term_ack_of f i)
       shut k =
           let s = is_closed_lem f.state k in
-          rw (s, (closed_stays e).0, (closed_stays e).1) (rw s at (reacts-goes f (term_ack_bytes f.proto i ∷ []) refl))
+          rw (s, (closed_stays e).0, (closed_stays e).1) (rw s at (reacts_goes f (term_ack_bytes f.proto i ∷ []) refl))
 
-  pub req-goes : (v : Verdict) → (answer f p).verdict ≡ v → Goes (after_req f.state v) (is_opened f.state) (req_of f i p)
+  pub req_goes : (v : Verdict) → (answer f p).verdict ≡ v → Goes (after_req f.state v) (is_opened f.state) (req_of f i p)
   unfolding req_of req_with
-  req-goes v e =
-      cond_all (Goes (after_req f.state v) (is_opened f.state)) (ltb (length p) 6) (refused-goes _)
-      (unless-goes _ _ (answer f p).outcome (replied_of f i (answer f p))
+  req_goes v e =
+      cond_all (Goes (after_req f.state v) (is_opened f.state)) (ltb (length p) 6) (refused_goes _)
+      (unless_goes _ _ (answer f p).outcome (replied_of f i (answer f p))
       (rw (← e) (cond_by (Goes (after_req f.state (answer f p).verdict) (is_opened f.state)) (is_opened f.state)
-      (λ k. rw k (requested-goes (after_reply f (answer f p)) _ refl))
-      (λ k. rw k (reacts-goes (after_reply f (answer f p)) _ refl)))))
+      (λ k. rw k (requested_goes (after_reply f (answer f p)) _ refl))
+      (λ k. rw k (reacts_goes (after_reply f (answer f p)) _ refl)))))
 
-  pub ack-goes : Goes (after_ack f.state) (ack_resends f.state) (ack_of f)
+  pub ack_goes : Goes (after_ack f.state) (ack_resends f.state) (ack_of f)
   unfolding ack_of
-  ack-goes =
+  ack_goes =
       cond_by (Goes (after_ack f.state) (ack_resends f.state)) (ack_resends f.state)
-      (λ k. rw k (requested-goes (with_state f (after_ack f.state)) [] refl))
-      (λ k. rw k (reacts-goes (with_state f (after_ack f.state)) [] refl))
+      (λ k. rw k (requested_goes (with_state f (after_ack f.state)) [] refl))
+      (λ k. rw k (reacts_goes (with_state f (after_ack f.state)) [] refl))
 
-  pub nack-goes : (rej : Bool) → is_closed f.state ≡ false → Goes (after_nack f.state) (not (is_closed f.state)) (nack_of f rej p)
+  pub nack_goes : (rej : Bool) → is_closed f.state ≡ false → Goes (after_nack f.state) (not (is_closed f.state)) (nack_of f rej p)
   unfolding nack_of nack_with
-  nack-goes rej k =
+  nack_goes rej k =
       let n = nacks_of rej f.proto (walk_of (drop 6 p)) in
       rw k
-      (cond_all (Goes (after_nack f.state) true) (ltb (length p) 6) (refused-goes _)
-      (unless-goes _ _ n.outcome _ (requested-goes (after_nacked f n.proto) [] refl)))
+      (cond_all (Goes (after_nack f.state) true) (ltb (length p) 6) (refused_goes _)
+      (unless_goes _ _ n.outcome _ (requested_goes (after_nacked f n.proto) [] refl)))
 
-  term-goes : Goes (after_term f.state) false (term_ack_of (with_state f (after_term f.state)) i)
+  term_goes : Goes (after_term f.state) false (term_ack_of (with_state f (after_term f.state)) i)
   unfolding term_ack_of
-  term-goes = reacts-goes (with_state f (after_term f.state)) _ refl
+  term_goes = reacts_goes (with_state f (after_term f.state)) _ refl
 
-  leaves-goes : (e : Event) (t : Reaction) → Leaves f i p e t → Goes (after_of e f.state) (asks_of e f.state) t
+  leaves_goes : (e : Event) (t : Reaction) → Leaves f i p e t → Goes (after_of e f.state) (asks_of e f.state) t
   unfolding act_of
-  leaves-goes e t (acked v) = closed-goes req_acked _ (λ _. req-goes Ack v)
-  leaves-goes e t (nacked v) = closed-goes req_not_acked _ (λ _. req-goes Nack v)
-  leaves-goes e t (rejected v) = closed-goes req_not_acked _ (λ _. req-goes Rej v)
-  leaves-goes e t ack_in = closed-goes ack _ (λ _. ack-goes)
-  leaves-goes e t nack_in = closed-goes nack_or_rej _ (nack-goes false)
-  leaves-goes e t rej_in = closed-goes nack_or_rej _ (nack-goes true)
-  leaves-goes e t terminate_in = closed-goes terminate _ (λ _. term-goes)
+  leaves_goes e t (acked v) = closed_goes req_acked _ (λ _. req_goes Ack v)
+  leaves_goes e t (nacked v) = closed_goes req_not_acked _ (λ _. req_goes Nack v)
+  leaves_goes e t (rejected v) = closed_goes req_not_acked _ (λ _. req_goes Rej v)
+  leaves_goes e t ack_in = closed_goes ack _ (λ _. ack_goes)
+  leaves_goes e t nack_in = closed_goes nack_or_rej _ (nack_goes false)
+  leaves_goes e t rej_in = closed_goes nack_or_rej _ (nack_goes true)
+  leaves_goes e t terminate_in = closed_goes terminate _ (λ _. term_goes)
 
 -- a packet of the row's event, in the state it starts from and not refused, does what the row says
 abbrev pub Holds : Transition → Type 0
@@ -164,7 +164,7 @@ Holds r =
     (f : OptionFsm) (i : ℕ) (p : List ℕ) (t : Reaction) → f.state ≡ r.from → Leaves f i p r.event t → t.outcome ≡ Done → Moved f r.to r.asks t
 
 row-holds : (e : Event) (s : State) → Holds (row e s (after_of e s) (asks_of e s))
-row-holds e s f i p t k l = rw (← k) (leaves-goes f i p e t l)
+row-holds e s f i p t k l = rw (← k) (leaves_goes f i p e t l)
 
 rows_hold : (es : List Event) → Each Holds (rows_for es)
 rows_hold [] = tt

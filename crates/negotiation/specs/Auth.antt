@@ -6,7 +6,7 @@ use Rattle.options.specs.declared.refusal.Outcome.{Outcome}
 use Rattle.negotiation.specs.declared.credentials.Credentials.{Credentials}
 use Rattle.negotiation.specs.declared.pap.Pap.{Pap}
 use Rattle.negotiation.specs.declared.pap.PapHandled.{PapHandled}
-use Rattle.negotiation.specs.declared.pap.PapState.TheVariants as papState
+use Rattle.negotiation.specs.declared.pap.PapState.TheVariants as pap_state
 use Rattle.negotiation.specs.declared.auth.Auth.{Auth}
 use Rattle.negotiation.specs.declared.auth.AuthHandled.{AuthHandled}
 
@@ -56,4 +56,4 @@ unfoldable pub opened_auth : Auth → AuthReaction
 opened_auth a = by_pap a (opened_pap a.credentials a.pap)
 
 unfoldable pub closed_auth : Auth → Auth
-closed_auth a = auth_after a (with_pap_state a.pap papState.Closed)
+closed_auth a = auth_after a (with_pap_state a.pap pap_state.Closed)

@@ -51,18 +51,18 @@ pub record Fair (k : ℕ) (r : Reply) : Type 0 where
 
 module _ (k : ℕ) (r : Reply) (fair : Fair k r) where
   -- the list stays
-  fair-kept : (o : Outcome) (p : Proto) → protocol_of p ≡ k
+  fair_kept : (o : Outcome) (p : Proto) → protocol_of p ≡ k
       → Fair k (record { outcome = o; verdict = r.verdict; count = r.count; packet = r.packet; proto = p })
-  fair-kept o p e = record { ready = record { tidy = fair.ready.tidy; most = fair.ready.most; room = fair.ready.room }; kind = e }
+  fair_kept o p e = record { ready = record { tidy = fair.ready.tidy; most = fair.ready.most; room = fair.ready.room }; kind = e }
 
-  fair-listed : (p : Proto) (v : Verdict) (c : ℕ) (d : List ℕ) → protocol_of p ≡ k → Fair k (listed_of r p v c d)
+  fair_listed : (p : Proto) (v : Verdict) (c : ℕ) (d : List ℕ) → protocol_of p ≡ k → Fair k (listed_of r p v c d)
   unfolding listed_of
-  fair-listed p v c d e =
-      cond_all (Fair k) (ltb (rank_of v) (rank_of r.verdict)) (fair-kept _ p e)
-      (cond_by (Fair k) (ltb max_option_len (length d)) (λ _. fair-kept _ _ fair.kind)
+  fair_listed p v c d e =
+      cond_all (Fair k) (ltb (rank_of v) (rank_of r.verdict)) (fair_kept _ p e)
+      (cond_by (Fair k) (ltb max_option_len (length d)) (λ _. fair_kept _ _ fair.kind)
       (λ l. let h = ltb-false max_option_len (length d) l in
       cond_all (Fair k) (ltb (rank_of r.verdict) (rank_of v)) (listing 1 (opt_bytes c d) (omega arith) (omega arith))
-      (cond_by (Fair k) (leb max_options r.count) (λ _. fair-kept _ _ fair.kind)
+      (cond_by (Fair k) (leb max_options r.count) (λ _. fair_kept _ _ fair.kind)
       (λ m. listing (r.count + 1) (content_of r.packet ++ opt_bytes c d) (omega (arith, leb-false max_options r.count m))
       (rw (length-append, length-take) (omega (arith, fair.ready.room)))))))
     where
@@ -78,12 +78,12 @@ fair_step : (k : ℕ) (r : Reply) (c : ℕ) (d : List ℕ) → Fair k r → Fair
 unfolding step_of
 fair_step k r c d fair =
     let j = judge_of r.proto c d in
-    fair-listed k r fair j.proto j.verdict c (sent_back j.verdict d (suggestion_of r.proto)) (judge_kind r.proto c d ∙ fair.kind)
+    fair_listed k r fair j.proto j.verdict c (sent_back j.verdict d (suggestion_of r.proto)) (judge_kind r.proto c d ∙ fair.kind)
 
 fair_reply : (k : ℕ) (r : Reply) (w : Walk) → Fair k r → Fair k (reply_of r w)
 unfolding reply_of
 fair_reply k r done fair = fair
-fair_reply k r (cut at) fair = fair-kept k r fair _ _ fair.kind
+fair_reply k r (cut at) fair = fair_kept k r fair _ _ fair.kind
 fair_reply k r (opt c d w) fair =
     let step = fair_step k r c d fair in
     cond_all (Fair k) (is_done (step_of r c d).outcome) (fair_reply k (step_of r c d) w step) step

@@ -11,21 +11,21 @@ use Rattle.options.specs.declared.refusal.Outcome.TheVariants.{Done, Refused}
 use Rattle.options.specs.declared.refusal.Refusal.TheVariants.{OptionCut}
 use Rattle.options.specs.Options.{option_of}
 use Rattle.options.specs.Proto.{own_nacked, nacks_of}
-use Rattle.options.proofs.Walks.{walk_last, last_done, last-cut, last-opt}
+use Rattle.options.proofs.Walks.{walk_last, last_done, last_cut, last_opt}
 
 -- the three ways on from a protocol p with the last options t of k bytes to come
 module _ (rej : Bool) (p : Proto) (k : ℕ) (t : List ℕ) where
-  pub nacks-done : length t ≤ 0 → nacks_of rej p (walk_last k t) ≡ record { outcome = Done; proto = p }
+  pub nacks_done : length t ≤ 0 → nacks_of rej p (walk_last k t) ≡ record { outcome = Done; proto = p }
   unfolding nacks_of
-  nacks-done h = rw (last_done k t h) refl
+  nacks_done h = rw (last_done k t h) refl
 
-  pub nacks-cut : 0 < length t → option_of t ≡ Cut
+  pub nacks_cut : 0 < length t → option_of t ≡ Cut
       → nacks_of rej p (walk_last k t) ≡ record { outcome = Refused (OptionCut (k - length t)); proto = p }
   unfolding nacks_of
-  nacks-cut h e = rw (last-cut k t h e) refl
+  nacks_cut h e = rw (last_cut k t h e) refl
 
-  pub nacks-on : (q : Proto) (c n : ℕ) → 0 < length t → option_of t ≡ Opt c n → length t ≤ k
+  pub nacks_on : (q : Proto) (c n : ℕ) → 0 < length t → option_of t ≡ Opt c n → length t ≤ k
       → q ≡ own_nacked p c (take (n - 2) (drop 2 t)) rej
       → nacks_of rej p (walk_last k t) ≡ nacks_of rej q (walk_last k (take (length t - n) (drop n t)))
   unfolding nacks_of
-  nacks-on q c n h e l f = rw (last-opt k t c n h e l, f) refl
+  nacks_on q c n h e l f = rw (last_opt k t c n h e l, f) refl

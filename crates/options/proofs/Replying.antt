@@ -20,26 +20,26 @@ use Rattle.options.specs.Wire.{pkt_of, content_of}
 use Rattle.options.specs.Options.{max_options, max_option_len, option_of, opt_bytes, sent_back}
 use Rattle.options.specs.Proto.{suggestion_of, judge_of}
 use Rattle.options.specs.Reply.{rank_of, refused_by, with_proto, listing, listed_of, step_of, reply_of, Ready}
-use Rattle.options.proofs.Walks.{walk_last, last_done, last-cut, last-opt}
+use Rattle.options.proofs.Walks.{walk_last, last_done, last_cut, last_opt}
 
 module _ (r : Reply) (p : Proto) (v : Verdict) (c : ℕ) (d : List ℕ) where
-  pub listed-lower : rank_of v < rank_of r.verdict → listed_of r p v c d ≡ with_proto r p
+  pub listed_lower : rank_of v < rank_of r.verdict → listed_of r p v c d ≡ with_proto r p
   unfolding listed_of
-  listed-lower h = rw (lt-ltb _ _ h) refl
+  listed_lower h = rw (lt-ltb _ _ h) refl
 
-  pub listed-long : rank_of r.verdict ≤ rank_of v → max_option_len < length d → listed_of r p v c d ≡ refused_by r OptionLong
+  pub listed_long : rank_of r.verdict ≤ rank_of v → max_option_len < length d → listed_of r p v c d ≡ refused_by r OptionLong
   unfolding listed_of
-  listed-long h l = rw (le-ltb _ _ h, lt-ltb _ _ l) refl
+  listed_long h l = rw (le-ltb _ _ h, lt-ltb _ _ l) refl
 
-  pub listed-higher : rank_of r.verdict < rank_of v → length d ≤ max_option_len → listed_of r p v c d ≡ listing v 1 (opt_bytes c d) p
+  pub listed_higher : rank_of r.verdict < rank_of v → length d ≤ max_option_len → listed_of r p v c d ≡ listing v 1 (opt_bytes c d) p
   unfolding listed_of
-  listed-higher h l =
+  listed_higher h l =
       let k : rank_of r.verdict ≤ rank_of v = omega arith in
       rw (le-ltb _ _ k, le-ltb _ _ l, lt-ltb _ _ h) refl
 
-  pub listed-many : rank_of r.verdict ≡ rank_of v → length d ≤ max_option_len → max_options ≤ r.count → listed_of r p v c d ≡ refused_by r OptionsMany
+  pub listed_many : rank_of r.verdict ≡ rank_of v → length d ≤ max_option_len → max_options ≤ r.count → listed_of r p v c d ≡ refused_by r OptionsMany
   unfolding listed_of
-  listed-many h l m =
+  listed_many h l m =
       let j : rank_of r.verdict ≤ rank_of v = omega arith in
       let k : rank_of v ≤ rank_of r.verdict = omega arith in
       rw (le-ltb _ _ j, le-ltb _ _ l, le-ltb _ _ k, le-leb _ _ m) refl
@@ -69,20 +69,20 @@ ready_refused h e = rw e (record { tidy = h.tidy; most = h.most; room = h.room }
 
 -- the four ways on from a reply r with the last options t of k bytes to come
 module _ (r : Reply) (k : ℕ) (t : List ℕ) where
-  pub reply-done : length t ≤ 0 → reply_of r (walk_last k t) ≡ r
+  pub reply_done : length t ≤ 0 → reply_of r (walk_last k t) ≡ r
   unfolding reply_of
-  reply-done h = rw (last_done k t h) refl
+  reply_done h = rw (last_done k t h) refl
 
-  pub reply-cut : 0 < length t → option_of t ≡ Cut → reply_of r (walk_last k t) ≡ refused_by r (OptionCut (k - length t))
+  pub reply_cut : 0 < length t → option_of t ≡ Cut → reply_of r (walk_last k t) ≡ refused_by r (OptionCut (k - length t))
   unfolding reply_of
-  reply-cut h e = rw (last-cut k t h e) refl
+  reply_cut h e = rw (last_cut k t h e) refl
 
   module _ (s : Reply) (c n : ℕ) (h : 0 < length t) (e : option_of t ≡ Opt c n) (l : length t ≤ k)
       (f : s ≡ step_of r c (take (n - 2) (drop 2 t))) where
-    pub reply-stop : is_done s.outcome ≡ false → reply_of r (walk_last k t) ≡ s
+    pub reply_stop : is_done s.outcome ≡ false → reply_of r (walk_last k t) ≡ s
     unfolding reply_of
-    reply-stop g = rw (last-opt k t c n h e l, ← f, g) refl
+    reply_stop g = rw (last_opt k t c n h e l, ← f, g) refl
 
-    pub reply-on : is_done s.outcome ≡ true → reply_of r (walk_last k t) ≡ reply_of s (walk_last k (take (length t - n) (drop n t)))
+    pub reply_on : is_done s.outcome ≡ true → reply_of r (walk_last k t) ≡ reply_of s (walk_last k (take (length t - n) (drop n t)))
     unfolding reply_of
-    reply-on g = rw (last-opt k t c n h e l, ← f, g) refl
+    reply_on g = rw (last_opt k t c n h e l, ← f, g) refl

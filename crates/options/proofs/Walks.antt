@@ -105,12 +105,12 @@ module _ (k : ℕ) (t : List ℕ) where
   pub last_done : length t ≤ 0 → walk_last k t ≡ done
   last_done = walk_done (k - length t) t
 
-  pub last-cut : 0 < length t → option_of t ≡ Cut → walk_last k t ≡ cut (k - length t)
-  last-cut = walk_cut (k - length t) t
+  pub last_cut : 0 < length t → option_of t ≡ Cut → walk_last k t ≡ cut (k - length t)
+  last_cut = walk_cut (k - length t) t
 
-  pub last-opt : (c n : ℕ) → 0 < length t → option_of t ≡ Opt c n → length t ≤ k
+  pub last_opt : (c n : ℕ) → 0 < length t → option_of t ≡ Opt c n → length t ≤ k
       → walk_last k t ≡ opt c (take (n - 2) (drop 2 t)) (walk_last k (take (length t - n) (drop n t)))
-  last-opt c n h e l =
+  last_opt c n h e l =
       let o = option_len_lem t c n e in
       let m : k - length t + n ≡ k - (length t - n) = omega arith in
       walk_opt (k - length t) t c n h e ∙ rw (rest t n, length-drop, m) refl

@@ -33,12 +33,12 @@ use Rattle.original.specs.Wire.{RawData, Options, PPP, Packet, packet_len}
 use Rattle.original.specs.Fsm as theirs
 use Rattle.original.specs.View.{view_state}
 use Rattle.original.specs.Panics.{RefusedAt}
-use Rattle.original.proofs.Bytes.{each-drop}
+use Rattle.original.proofs.Bytes.{each_drop}
 use Rattle.original.proofs.Frames.{Carries, Carried, none, more, carried_append}
-use Rattle.original.proofs.Walk.{parse-is, walk_bytes}
+use Rattle.original.proofs.Walk.{parse_is, walk_bytes}
 use Rattle.original.proofs.Packets.{lists_none, carries_ppp}
 use Rattle.original.proofs.Refused.{refused_at, refused_so}
-use Rattle.original.proofs.Replies.{Stands, SameReply, SameAnswer, reply-same, SameNacks, nacks-same}
+use Rattle.original.proofs.Replies.{Stands, SameReply, SameAnswer, reply_same, SameNacks, nacks_same}
 use Rattle.original.proofs.Replies as replies
 
 module _ {X P : Type 0} (T : theirs.Protocol P) (inj : X → Proto) (view : X → P) (stands : Stands T inj view) where
@@ -58,16 +58,16 @@ module _ {X P : Type 0} (T : theirs.Protocol P) (inj : X → Proto) (view : X �
 
   -- ---- what is sent
 
-  pub request-carries : (i : ℕ) (x : X)
+  pub request_carries : (i : ℕ) (x : X)
       → Carries (theirs.packet_of T (PPP 1 ((i + 1) % 256) (Options (stands.own x).opts))) (request_bytes (inj x) (next_id i))
-  request-carries i x =
+  request_carries i x =
       let own = stands.own x in
       carries_ppp T.protocol _ 1 _ (Options own.opts) _ (stands.number x) (lit< tt) (mod-lt (i + 1) {m = 256} (lit< tt)) own.lists.is own.lists.len own.lists.bytes (omega (arith, own_short (inj x)))
 
   -- an own request
   pub request-sent : (i : ℕ) (s : State) (x : X)
-      → theirs.sendConfigureRequest T (there i s x) ≡ returns (record { fsm = there (next_id i) s x; packet = theirs.packet_of T (PPP 1 (next_id i) (Options (stands.own x).opts)) })
-  unfolding theirs.sendConfigureRequest
+      → theirs.send_configure_request T (there i s x) ≡ returns (record { fsm = there (next_id i) s x; packet = theirs.packet_of T (PPP 1 (next_id i) (Options (stands.own x).opts)) })
+  unfolding theirs.send_configure_request
   request-sent i s x = rw (stands.own x).pushed refl
 
   module _ (pkt : List ℕ) where
@@ -77,84 +77,84 @@ module _ {X P : Type 0} (T : theirs.Protocol P) (inj : X → Proto) (view : X �
     plain i s x small c = same i s x small refl refl refl refl (λ e. absurd (false≢true e)) c
 
     request-same : (i : ℕ) (s s' : State) (x : X) {tx : List Packet} {ps : List (List ℕ)} → Carried tx ps
-        → SameTurn pkt (theirs.requestBehind T (there i s x) (view_state s') pkt tx) (ours.requested (here i s' x) ps)
-    unfolding theirs.requestBehind ours.requested
+        → SameTurn pkt (theirs.request_behind T (there i s x) (view_state s') pkt tx) (ours.requested (here i s' x) ps)
+    unfolding theirs.request_behind ours.requested
     request-same i s s' x c =
         rw (request-sent i s x)
-        (plain ((i + 1) % 256) s' x (mod-lt (i + 1) {m = 256} (lit< tt)) (carried_append c (more (request-carries i x) none)))
+        (plain ((i + 1) % 256) s' x (mod-lt (i + 1) {m = 256} (lit< tt)) (carried_append c (more (request_carries i x) none)))
 
-    ack-carries : (i : ℕ) (x : X) → i < 256 → Carries (theirs.sendTerminateAck T i) (term_ack_bytes (inj x) i)
-    ack-carries i x small = carries_ppp T.protocol _ 6 i (RawData []) [] (stands.number x) (lit< tt) small refl refl tt (lit< tt)
+    ack_carries : (i : ℕ) (x : X) → i < 256 → Carries (theirs.send_terminate_ack T i) (term_ack_bytes (inj x) i)
+    ack_carries i x small = carries_ppp T.protocol _ 6 i (RawData []) [] (stands.number x) (lit< tt) small refl refl tt (lit< tt)
 
-    pub term-same : (i j : ℕ) (s : State) (x : X) → i < 256 → j < 256
-        → SameTurn pkt (theirs.handled T (there i s x) pkt (theirs.sendTerminateAck T j ∷ [])) (ours.term_ack_of (here i s x) j)
+    pub term_same : (i j : ℕ) (s : State) (x : X) → i < 256 → j < 256
+        → SameTurn pkt (theirs.handled T (there i s x) pkt (theirs.send_terminate_ack T j ∷ [])) (ours.term_ack_of (here i s x) j)
     unfolding ours.term_ack_of
-    term-same i j s x small small' = plain i s x small (more (ack-carries j x small') none)
+    term_same i j s x small small' = plain i s x small (more (ack_carries j x small') none)
 
     -- ---- by the code
 
-    pub on-ack : (i : ℕ) (s : State) (x : X) → i < 256 → SameTurn pkt (theirs.onConfigureAck T (view_state s) (there i s x) pkt) (ours.ack_of (here i s x))
+    pub on_ack : (i : ℕ) (s : State) (x : X) → i < 256 → SameTurn pkt (theirs.on_configure_ack T (view_state s) (there i s x) pkt) (ours.ack_of (here i s x))
     unfolding ours.ack_of
-    on-ack i Closed x small = plain i Closed x small none
-    on-ack i ReqSent x small = plain i AckReceived x small none
-    on-ack i AckReceived x small = request-same i ReqSent ReqSent x none
-    on-ack i AckSent x small = plain i Opened x small none
-    on-ack i Opened x small = request-same i ReqSent ReqSent x none
+    on_ack i Closed x small = plain i Closed x small none
+    on_ack i ReqSent x small = plain i AckReceived x small none
+    on_ack i AckReceived x small = request-same i ReqSent ReqSent x none
+    on_ack i AckSent x small = plain i Opened x small none
+    on_ack i Opened x small = request-same i ReqSent ReqSent x none
 
-    pub on-term : (i j : ℕ) (s : State) (x : X) → i < 256 → j < 256 → ours.is_closed s ≡ false
-        → SameTurn pkt (theirs.onTerminateReq T (there i s x) j pkt) (ours.term_ack_of (here i (ours.after_term s) x) j)
-    on-term i j Closed x small small' e = absurd (true≢false e)
-    on-term i j ReqSent x small small' e = term-same i j ReqSent x small small'
-    on-term i j AckReceived x small small' e = term-same i j ReqSent x small small'
-    on-term i j AckSent x small small' e = term-same i j ReqSent x small small'
-    on-term i j Opened x small small' e = term-same i j Closed x small small'
+    pub on_term : (i j : ℕ) (s : State) (x : X) → i < 256 → j < 256 → ours.is_closed s ≡ false
+        → SameTurn pkt (theirs.on_terminate_req T (there i s x) j pkt) (ours.term_ack_of (here i (ours.after_term s) x) j)
+    on_term i j Closed x small small' e = absurd (true≢false e)
+    on_term i j ReqSent x small small' e = term_same i j ReqSent x small small'
+    on_term i j AckReceived x small small' e = term_same i j ReqSent x small small'
+    on_term i j AckSent x small small' e = term_same i j ReqSent x small small'
+    on_term i j Opened x small small' e = term_same i j Closed x small small'
 
-    after-nack : (i : ℕ) (s : State) (x : X) → ours.is_closed s ≡ false
+    after_nack_lem : (i : ℕ) (s : State) (x : X) → ours.is_closed s ≡ false
         → SameTurn pkt (theirs.after_nack T (view_state s) (there i s x) pkt) (ours.requested (here i (ours.after_nack s) x) [])
-    after-nack i Closed x e = absurd (true≢false e)
-    after-nack i ReqSent x e = request-same i ReqSent ReqSent x none
-    after-nack i AckReceived x e = request-same i AckReceived ReqSent x none
-    after-nack i AckSent x e = request-same i AckSent AckSent x none
-    after-nack i Opened x e = request-same i Opened ReqSent x none
+    after_nack_lem i Closed x e = absurd (true≢false e)
+    after_nack_lem i ReqSent x e = request-same i ReqSent ReqSent x none
+    after_nack_lem i AckReceived x e = request-same i AckReceived ReqSent x none
+    after_nack_lem i AckSent x e = request-same i AckSent AckSent x none
+    after_nack_lem i Opened x e = request-same i Opened ReqSent x none
 
-    pub on-nack : (i : ℕ) (s : State) (x : X) (rej : Bool) → ours.is_closed s ≡ false
-        → SameTurn pkt (theirs.onConfigureNack T (there i s x) rej pkt) (ours.nack_of (here i s x) rej pkt)
-    unfolding theirs.onConfigureNack ours.nack_of ours.nack_with
-    on-nack i s x rej live =
+    pub on_nack : (i : ℕ) (s : State) (x : X) (rej : Bool) → ours.is_closed s ≡ false
+        → SameTurn pkt (theirs.on_configure_nack T (there i s x) rej pkt) (ours.nack_of (here i s x) rej pkt)
+    unfolding theirs.on_configure_nack ours.nack_of ours.nack_with
+    on_nack i s x rej live =
         cond_both (SameTurn pkt) {t = ltb (length pkt) 6} refl (λ _. stops (refused_at ConfigureShort refl))
-        (λ _. rw (parse-is (theirs.nackOption T rej) (view x) (drop 6 pkt)) (go _ _ (nacks-same T inj view stands rej x (walk_of (drop 6 pkt)))))
+        (λ _. rw (parse_is (theirs.nack_option T rej) (view x) (drop 6 pkt)) (go _ _ (nacks_same T inj view stands rej x (walk_of (drop 6 pkt)))))
       where
         go : (r : Run P) (n : Nacked) → SameNacks T inj view stands r n
             → SameTurn pkt (r >>= λ p. theirs.after_nack T (view_state s) (theirs.with_proto T (there i s x) p) pkt) (ours.unless n.outcome (here i s x) (ours.requested (ours.after_nacked (here i s x) n.proto) []))
-        go r n (replies.nacked y e) = rw e (after-nack i s y live)
+        go r n (replies.nacked y e) = rw e (after_nack_lem i s y live)
         go r n (replies.refused f) = rw f.outcome (stops (refused_so f))
 
-    after-req : (i : ℕ) (s : State) (v : verdict.Verdict) (x : X) {tx : List Packet} {ps : List (List ℕ)} → i < 256 → ours.is_closed s ≡ false → Carried tx ps
-        → SameTurn pkt (theirs.afterResp T (view_state s) (eqb (code_of v) 2) (there i s x) pkt tx) (cond (ours.is_opened s) (ours.requested (here i (ours.after_req s v) x) ps) (ours.reacts (here i (ours.after_req s v) x) ps))
-    after-req i Closed v x small e c = absurd (true≢false e)
-    after-req i ReqSent verdict.TheVariants.Ack x small e c = plain i AckSent x small c
-    after-req i ReqSent verdict.TheVariants.Nack x small e c = plain i ReqSent x small c
-    after-req i ReqSent verdict.TheVariants.Rej x small e c = plain i ReqSent x small c
-    after-req i AckReceived verdict.TheVariants.Ack x small e c = plain i Opened x small c
-    after-req i AckReceived verdict.TheVariants.Nack x small e c = plain i AckReceived x small c
-    after-req i AckReceived verdict.TheVariants.Rej x small e c = plain i AckReceived x small c
-    after-req i AckSent verdict.TheVariants.Ack x small e c = plain i AckSent x small c
-    after-req i AckSent verdict.TheVariants.Nack x small e c = plain i ReqSent x small c
-    after-req i AckSent verdict.TheVariants.Rej x small e c = plain i ReqSent x small c
-    after-req i Opened verdict.TheVariants.Ack x small e c = request-same i Opened AckSent x c
-    after-req i Opened verdict.TheVariants.Nack x small e c = request-same i Opened ReqSent x c
-    after-req i Opened verdict.TheVariants.Rej x small e c = request-same i Opened ReqSent x c
+    after_req_lem : (i : ℕ) (s : State) (v : verdict.Verdict) (x : X) {tx : List Packet} {ps : List (List ℕ)} → i < 256 → ours.is_closed s ≡ false → Carried tx ps
+        → SameTurn pkt (theirs.after_resp T (view_state s) (eqb (code_of v) 2) (there i s x) pkt tx) (cond (ours.is_opened s) (ours.requested (here i (ours.after_req s v) x) ps) (ours.reacts (here i (ours.after_req s v) x) ps))
+    after_req_lem i Closed v x small e c = absurd (true≢false e)
+    after_req_lem i ReqSent verdict.TheVariants.Ack x small e c = plain i AckSent x small c
+    after_req_lem i ReqSent verdict.TheVariants.Nack x small e c = plain i ReqSent x small c
+    after_req_lem i ReqSent verdict.TheVariants.Rej x small e c = plain i ReqSent x small c
+    after_req_lem i AckReceived verdict.TheVariants.Ack x small e c = plain i Opened x small c
+    after_req_lem i AckReceived verdict.TheVariants.Nack x small e c = plain i AckReceived x small c
+    after_req_lem i AckReceived verdict.TheVariants.Rej x small e c = plain i AckReceived x small c
+    after_req_lem i AckSent verdict.TheVariants.Ack x small e c = plain i AckSent x small c
+    after_req_lem i AckSent verdict.TheVariants.Nack x small e c = plain i ReqSent x small c
+    after_req_lem i AckSent verdict.TheVariants.Rej x small e c = plain i ReqSent x small c
+    after_req_lem i Opened verdict.TheVariants.Ack x small e c = request-same i Opened AckSent x c
+    after_req_lem i Opened verdict.TheVariants.Nack x small e c = request-same i Opened ReqSent x c
+    after_req_lem i Opened verdict.TheVariants.Rej x small e c = request-same i Opened ReqSent x c
 
-    code-small : (v : verdict.Verdict) → code_of v < 256
-    code-small verdict.TheVariants.Ack = lit< tt
-    code-small verdict.TheVariants.Nack = lit< tt
-    code-small verdict.TheVariants.Rej = lit< tt
+    code_small : (v : verdict.Verdict) → code_of v < 256
+    code_small verdict.TheVariants.Ack = lit< tt
+    code_small verdict.TheVariants.Nack = lit< tt
+    code_small verdict.TheVariants.Rej = lit< tt
 
     -- the reply's packet
-    reply-carries : (j : ℕ) (a : theirs.Answer P) (r : Reply) → j < 256 → (k : SameReply T inj view stands a r)
+    reply_carries : (j : ℕ) (a : theirs.Answer P) (r : Reply) → j < 256 → (k : SameReply T inj view stands a r)
         → Carries (theirs.packet_of T (PPP (code_of r.verdict) j (Options a.opts))) (packet_of (protocol_of (inj k.x)) (code_of r.verdict) j (content_of r.packet))
-    reply-carries j a r small k =
-        carries_ppp T.protocol _ _ j (Options a.opts) _ (stands.number k.x) (code-small r.verdict) small k.lists.is k.lists.len k.lists.bytes (omega (arith, k.room, k.most))
+    reply_carries j a r small k =
+        carries_ppp T.protocol _ _ j (Options a.opts) _ (stands.number k.x) (code_small r.verdict) small k.lists.is k.lists.len k.lists.bytes (omega (arith, k.room, k.most))
 
     fresh-same : (x : X) → SameReply T inj view stands (record { proto = view x; code = 2; opts = [] }) (fresh_reply (inj x))
     fresh-same x =
@@ -164,20 +164,20 @@ module _ {X P : Type 0} (T : theirs.Protocol P) (inj : X → Proto) (view : X �
     abbrev reply : ℕ → ℕ → State → X → theirs.Answer P → theirs.Sent P
     reply i j s x a = record { fsm = theirs.with_proto T (there i s x) a.proto; packet = theirs.packet_of T (PPP a.code j (Options a.opts)) }
 
-    pub on-req : (i j : ℕ) (s : State) (x : X) → i < 256 → j < 256 → ours.is_closed s ≡ false → Bytes pkt → (6 ≤ length pkt → get_or pkt 3 0 ≡ j)
-        → SameTurn pkt (theirs.onConfigureReq T (there i s x) pkt) (ours.req_of (here i s x) j pkt)
-    unfolding theirs.onConfigureReq theirs.receivedConfigureReq ours.req_of ours.req_with
-    on-req i j s x small small' live bytes third =
+    pub on_req : (i j : ℕ) (s : State) (x : X) → i < 256 → j < 256 → ours.is_closed s ≡ false → Bytes pkt → (6 ≤ length pkt → get_or pkt 3 0 ≡ j)
+        → SameTurn pkt (theirs.on_configure_req T (there i s x) pkt) (ours.req_of (here i s x) j pkt)
+    unfolding theirs.on_configure_req theirs.received_configure_req ours.req_of ours.req_with
+    on_req i j s x small small' live bytes third =
         by_le 6 (length pkt)
-        (λ h. rw (le-ltb (length pkt) 6 h, le-ltb (length pkt) 4 (omega arith), parse-is (theirs.peerOption T) (record { proto = T.peer_options_start (view x); code = 2; opts = [] }) (drop 6 pkt), stands.start_theirs x, stands.start_ours x, third h)
-        (go _ _ (reply-same T inj view stands _ _ (walk_of (drop 6 pkt)) (fresh-same (stands.started x)) (walk_bytes (drop 6 pkt) (each-drop (λ b. b < 256) 6 pkt bytes)))))
+        (λ h. rw (le-ltb (length pkt) 6 h, le-ltb (length pkt) 4 (omega arith), parse_is (theirs.peer_option T) (record { proto = T.peer_options_start (view x); code = 2; opts = [] }) (drop 6 pkt), stands.start_theirs x, stands.start_ours x, third h)
+        (go _ _ (reply_same T inj view stands _ _ (walk_of (drop 6 pkt)) (fresh-same (stands.started x)) (walk_bytes (drop 6 pkt) (each_drop (λ b. b < 256) 6 pkt bytes)))))
         (λ h. rw (lt-ltb (length pkt) 6 h) (by_test (ltb (length pkt) 4) (λ t. rw t (stops (refused_at ConfigureShort refl))) (λ t. rw t (stops (refused_at ConfigureShort refl)))))
       where
         go : (t : Run (theirs.Answer P)) (r : Reply) → SameAnswer T inj view stands t r
             → SameTurn pkt
-            (t >>= (λ a. returns (reply i j s x a)) >>= λ r. theirs.afterResp T (view_state s) (theirs.isAck T r.packet.payload) r.fsm pkt (r.packet ∷ []))
+            (t >>= (λ a. returns (reply i j s x a)) >>= λ r. theirs.after_resp T (view_state s) (theirs.is_ack T r.packet.payload) r.fsm pkt (r.packet ∷ []))
             (ours.unless r.outcome (here i s x) (ours.replied_of (here i s x) j r))
         go (returns a) r (replies.on k) =
             rw (k.going, k.proto, k.case, k.code)
-            (after-req i s r.verdict k.x small live (more (reply-carries j a r small' k) none))
+            (after_req_lem i s r.verdict k.x small live (more (reply_carries j a r small' k) none))
         go (panics p) r (replies.off f) = rw f.outcome (stops (refused_so f))

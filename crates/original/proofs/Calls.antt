@@ -33,9 +33,9 @@ use Rattle.link.specs.declared.refusal.Outcome.{Outcome}
 use Rattle.link.specs.declared.refusal.Outcome.TheVariants.{Done, Refused}
 use Rattle.link.specs.declared.choices.Choices.{Choices}
 use Rattle.link.specs.declared.pppos.PPPoS.{PPPoS}
-use Rattle.original.specs.Run.{Place, returns, panics, nameLong, passwordLong}
+use Rattle.original.specs.Run.{Place, returns, panics, name_long, password_long}
 use Rattle.original.specs.Framing.{new_reader}
-use Rattle.original.specs.Fsm.{newFsm}
+use Rattle.original.specs.Fsm.{new_fsm}
 use Rattle.original.specs.Protocols.{get_ip, NoAddr, SomeAddr, new_lcp, lcp_protocol, new_ipv4cp, ipv4cp_protocol, PapClosed}
 use Rattle.original.specs.Ppp as ppp
 use Rattle.original.specs.Pppos as theirs
@@ -100,7 +100,7 @@ abbrev made : List ℕ → List ℕ → theirs.PPPoS
 made name password =
     record {
       frame_reader = new_reader;
-      ppp = record { phase = ppp.Dead; opening = false; lcp = newFsm lcp_protocol new_lcp; pap = record { state = PapClosed; id = 1; username = name; password = password }; ipv4cp = newFsm ipv4cp_protocol new_ipv4cp };
+      ppp = record { phase = ppp.Dead; opening = false; lcp = new_fsm lcp_protocol new_lcp; pap = record { state = PapClosed; id = 1; username = name; password = password }; ipv4cp = new_fsm ipv4cp_protocol new_ipv4cp };
     }
 
 fits_not : (n m : ℕ) → max_credentials < n + m → fits_credentials n m ≡ false
@@ -116,8 +116,8 @@ module _ (name password : List ℕ) (k : Choices) {o : Outcome} {l : PPPoS} (c :
   fresh : k.reading ≡ Crate → l.frame_reader.reading ≡ Crate
   fresh crate = ap (λ (x : PPPoS). x.frame_reader.reading) c.link ∙ crate
 
-  pub new-fits : k.reading ≡ Crate → length name + length password ≤ max_credentials → (o ≡ Done) × (theirs.new_link name password ≡ returns (view_link l)) × (l.frame_reader.reading ≡ Crate)
-  new-fits crate h =
+  pub new_fits : k.reading ≡ Crate → length name + length password ≤ max_credentials → (o ≡ Done) × (theirs.new_link name password ≡ returns (view_link l)) × (l.frame_reader.reading ≡ Crate)
+  new_fits crate h =
       (c.outcome ∙ rw (sum_fits (length name) (length password) h) refl, fresh_is name password k.reading h ∙ ap returns (sym (ap view_link c.link)), fresh crate)
 
   pub new_over : k.reading ≡ Crate → max_credentials < length name + length password → (o ≡ Refused (Negotiation CredentialsLong)) × (theirs.new_link [] [] ≡ returns (view_link l)) × (l.frame_reader.reading ≡ Crate)
@@ -130,13 +130,13 @@ module _ (name password : List ℕ) (k : Choices) {o : Outcome} {l : PPPoS} (c :
   new_panics {p} e =
       by_test (ltb 255 (length name))
       (λ t.
-      let z : theirs.new_link name password ≡ panics nameLong = rw t refl in
-      let q : p ≡ nameLong = cc in
+      let z : theirs.new_link name password ≡ panics name_long = rw t refl in
+      let q : p ≡ name_long = cc in
       four (omega (arith, ltb-true 255 (length name) t)) ∙ sym (ap number_at q))
       (λ t. by_test (ltb 255 (length password))
       (λ u.
-      let z : theirs.new_link name password ≡ panics passwordLong = rw (t, u) refl in
-      let q : p ≡ passwordLong = cc in
+      let z : theirs.new_link name password ≡ panics password_long = rw (t, u) refl in
+      let q : p ≡ password_long = cc in
       four (omega (arith, ltb-true 255 (length password) u)) ∙ sym (ap number_at q))
       (λ u.
       let z : theirs.new_link name password ≡ returns (made name password) = rw (t, u) refl in

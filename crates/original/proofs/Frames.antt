@@ -20,7 +20,7 @@ use Rattle.framing.proofs.Frame.{join-frame}
 use Rattle.options.specs.Wire.{max_packet}
 use Rattle.link.specs.Frames.{every_byte, frames}
 use Rattle.options.proofs.Fair.{Short}
-use Rattle.original.specs.Run.{Run, returns, panics, replyFull, ◌>>=◌}
+use Rattle.original.specs.Run.{Run, returns, panics, reply_full, ◌>>=◌}
 use Rattle.original.specs.Framing.{FrameWriter, start, finish, append}
 use Rattle.original.specs.Wire.{Packet, packet_len, emit}
 use Rattle.original.specs.Pppos.{unwrapped, transmit, transmit_all}
@@ -47,7 +47,7 @@ writer_at w c o = record { buf = o.bytes; len = o.at; crc = c; asyncmap = w.asyn
 
 -- a run, unwrapped; the check value is c where it was done
 abbrev ran_or : FrameWriter → ℕ → Out → Run FrameWriter
-ran_or w c o = cond o.done (returns (writer_at w c o)) (panics replyFull)
+ran_or w c o = cond o.done (returns (writer_at w c o)) (panics reply_full)
 
 run_bind : (w : FrameWriter) (c d : ℕ) (us vs : List (List ℕ)) (buf : List ℕ) (at : ℕ) (next : FrameWriter → Run FrameWriter)
     → ((o : Out) → next (writer_at w c o) ≡ ran_or w d (write vs o.bytes o.at))
@@ -65,8 +65,8 @@ module _ (w : FrameWriter) (p : List ℕ) (bytes : Bytes p) where
   abbrev chain : Run FrameWriter
   chain = unwrapped (start w) >>= λ v. unwrapped (append v p) >>= λ v. unwrapped (finish v)
 
-  chain-is : chain ≡ ran_or w (fcs 0x3DE3 p) (write (frame_units w.asyncmap p) w.buf w.len)
-  chain-is =
+  chain_is : chain ≡ ran_or w (fcs 0x3DE3 p) (write (frame_units w.asyncmap p) w.buf w.len)
+  chain_is =
       let m = w.asyncmap in
       let c = fcs 0x3DE3 p in
       rw (start_is w)
@@ -87,7 +87,7 @@ abbrev behind : FrameWriter → List ℕ → ℕ → FrameWriter
 behind w f c = record { buf = sets w.buf w.len f; len = w.len + length f; crc = c; asyncmap = w.asyncmap }
 
 abbrev if_room : FrameWriter → List ℕ → ℕ → Run FrameWriter
-if_room w f c = cond (leb (w.len + length f) (length w.buf)) (returns (behind w f c)) (panics replyFull)
+if_room w f c = cond (leb (w.len + length f) (length w.buf)) (returns (behind w f c)) (panics reply_full)
 
 frame_is : (w : FrameWriter) (p : List ℕ) (c : ℕ) → w.len ≤ length w.buf
     → ran_or w c (write (frame_units w.asyncmap p) w.buf w.len) ≡ if_room w (frame w.asyncmap p) c
@@ -106,7 +106,7 @@ frame_is w p c h =
 pub transmit_is : (w : FrameWriter) {q : Packet} {l : List ℕ} → Carries q l → length l ≤ max_packet → w.len ≤ length w.buf
     → transmit w q ≡ if_room w (frame w.asyncmap l) (fcs 0x3DE3 l)
 unfolding transmit
-transmit_is w {q} {l} c short h = rw (c.len, le-ltb max_packet (length l) short, c.is) (chain-is w l c.bytes ∙ frame_is w l (fcs 0x3DE3 l) h)
+transmit_is w {q} {l} c short h = rw (c.len, le-ltb max_packet (length l) short, c.is) (chain_is w l c.bytes ∙ frame_is w l (fcs 0x3DE3 l) h)
 
 -- the check value behind packets
 abbrev pub crc_after : ℕ → List (List ℕ) → ℕ

@@ -57,11 +57,11 @@ module _ {name password : List ℕ} {cs : List Call} {xs : List OurAnswer} {l : 
         framed = all_last.framed.new name password h.choices h.plain h.crate_reading h.name_bytes h.password_bytes h.new;
       }
 
-  pub history-kept : Kept l
-  history-kept = calls_kept h.calls fresh_kept
+  pub history_kept : Kept l
+  history_kept = calls_kept h.calls fresh_kept
 
-  pub history-reached : Reached h.choices l
-  history-reached = calls_reached h.calls (rw h.new.link (by_new name password))
+  pub history_reached : Reached h.choices l
+  history_reached = calls_reached h.calls (rw h.new.link (by_new name password))
 
 -- ---- one call
 

@@ -18,7 +18,7 @@ use Rattle.framing.proofs.Reader.{fresh_framed, consumed_framed}
 use Rattle.options.specs.Refusal.{is_done}
 use Rattle.options.specs.Wire.{protocol_in}
 use Rattle.options.specs.declared.lcp.AuthType.{AuthType}
-use Rattle.options.specs.declared.lcp.AuthType.TheVariants as authType
+use Rattle.options.specs.declared.lcp.AuthType.TheVariants as auth_type
 use Rattle.negotiation.specs.Automaton.{is_closed, is_opened}
 use Rattle.negotiation.specs.Credentials.{max_credentials, fits_credentials}
 use Rattle.negotiation.specs.Auth.{is_auth_opened, auth_handle_of, opened_auth, closed_auth}
@@ -32,12 +32,12 @@ use Rattle.link.specs.Link.{link_of, held_by, is_ip, poll_link}
 use Rattle.link.specs.declared.choices.Choices.{Choices}
 use Rattle.link.specs.declared.pppos.PPPoS.{PPPoS}
 use Rattle.link.proofs.Leaving.{poll-leaves}
-use Rattle.link.proofs.Chosen.{makes_chosen, opens-keeps, consumes-keeps, polls-keeps}
+use Rattle.link.proofs.Chosen.{makes_chosen, opens_keeps, consumes_keeps, polls_keeps}
 use Rattle.original.specs.Run.{Run}
 use Rattle.original.specs.Ppp as ppp
 use Rattle.original.specs.View.{view_ppp}
 use Rattle.original.specs.Domain.{Lasting, Lasts, AllLast, CredentialsFit}
-use Rattle.original.proofs.Bytes.{each_take, each-drop}
+use Rattle.original.proofs.Bytes.{each_take, each_drop}
 use Rattle.original.proofs.Received.{Held, SameReceived, same, long, stops, received-same}
 use Rattle.original.proofs.Opening as opening
 use Rattle.original.proofs.Phases.{phase_same}
@@ -47,29 +47,29 @@ use Rattle.original.proofs.Link.{lasting_held}
 
 module _ (P : PPPoS → Type 0) (fetch : (r : FrameReader) (p : Ppp) → P (link_of r p) → P (link_of (reader.fetched r) p)) (step : (r : FrameReader) (p : Ppp) → P (link_of r p) → P (link_of r (phase_of p).ppp))
     (hear : (r : FrameReader) (p : Ppp) (pkt : List ℕ) → Bytes pkt → is_ip pkt ≡ false → is_done (received_of p pkt).outcome ≡ true → P (link_of r p) → P (link_of r (received_of p pkt).ppp)) where
-  turn-lasts : (r : FrameReader) (p : Ppp) (pkt : List ℕ) → Bytes pkt → is_ip pkt ≡ false → P (link_of r p) → P (link_of r (turn_of p pkt).ppp)
+  turn_lasts : (r : FrameReader) (p : Ppp) (pkt : List ℕ) → Bytes pkt → is_ip pkt ≡ false → P (link_of r p) → P (link_of r (turn_of p pkt).ppp)
   unfolding turn_of
-  turn-lasts r p pkt bytes other k =
+  turn_lasts r p pkt bytes other k =
       cond_by (λ (t : Turn). P (link_of r t.ppp)) (is_done (received_of p pkt).outcome)
       (λ done. step r (received_of p pkt).ppp (hear r p pkt bytes other done k)) (λ _. k)
 
-  poll-lasts : (l : PPPoS) (tx rx : List ℕ) → Bytes rx → P l → P (poll_link l tx rx).link
-  poll-lasts l tx rx bytes k =
+  poll_lasts : (l : PPPoS) (tx rx : List ℕ) → Bytes rx → P l → P (poll_link l tx rx).link
+  poll_lasts l tx rx bytes k =
       let r = l.frame_reader in
       let next = fetch r l.ppp k in
-      let parts = each_take (λ b. b < 256) (r.len - 2 - 1) (drop 1 rx) (each-drop (λ b. b < 256) 1 rx bytes) in
-      poll-leaves P l tx rx k next (λ other. turn-lasts (reader.fetched r) l.ppp (reader.packet_of (held_by l rx)) parts other next) (step r l.ppp k)
+      let parts = each_take (λ b. b < 256) (r.len - 2 - 1) (drop 1 rx) (each_drop (λ b. b < 256) 1 rx bytes) in
+      poll-leaves P l tx rx k next (λ other. turn_lasts (reader.fetched r) l.ppp (reader.packet_of (held_by l rx)) parts other next) (step r l.ppp k)
 
   -- and of the other calls
-  lasts-by : ((name password : List ℕ) (c : Choices) → Bytes name → Bytes password → length name + length password ≤ max_credentials → P (link_of (reader.fresh_reader c.reading) (fresh_ppp name password)))
+  lasts_by : ((name password : List ℕ) (c : Choices) → Bytes name → Bytes password → length name + length password ≤ max_credentials → P (link_of (reader.fresh_reader c.reading) (fresh_ppp name password)))
       → ((r : FrameReader) (p : Ppp) → P (link_of r p) → P (link_of r (with_opening (with_phase p Establish) true)))
       → ((l : PPPoS) (rx bs : List ℕ) → P l → P (link_of (reader.consumed (held_by l rx) bs).now.reader l.ppp)) → Lasts P
-  lasts-by fresh opened fed =
+  lasts_by fresh opened fed =
       record {
         new = λ name password c _ _ b d x. rw x.link (made name password c b d);
         «open» = λ l k x. rw x.link (cond_all (λ (t : Turn). P (link_of l.frame_reader t.ppp)) (is_dead l.ppp.phase) (opened l.frame_reader l.ppp k) k);
         consume = λ l rx bs k x. rw x.link (fed l rx bs k);
-        poll = λ l tx rx b k x. rw x.link (poll-lasts l tx rx b k);
+        poll = λ l tx rx b k x. rw x.link (poll_lasts l tx rx b k);
       }
     where
       made : (name password : List ℕ) (c : Choices) → Bytes name → Bytes password → P (link_of (reader.fresh_reader c.reading) (new_of name password).ppp)
@@ -122,8 +122,8 @@ phase_fit p w = settled-fit (by_phase p.phase p).ppp (go p.phase)
     P s = CredentialsFit s.ppp.auth.credentials
 
     auth : (a : AuthType) → P (by_auth a p)
-    auth authType.None = w
-    auth authType.Pap = w
+    auth auth_type.None = w
+    auth auth_type.Pap = w
 
     go : (f : Phase) → P (by_phase f p)
     go Dead = w
@@ -143,9 +143,9 @@ chosen_lasts : Lasts (λ l. Plain (choices_of l) × ((choices_of l).reading ≡ 
 chosen_lasts =
     record {
       new = λ name password c p k _ _ x. both (makes_chosen name password c x) p k;
-      «open» = λ l k x. both (opens-keeps l x) k.0 k.1;
-      consume = λ l rx bs k x. both (consumes-keeps l rx bs x) k.0 k.1;
-      poll = λ l tx rx _ k x. both (polls-keeps l tx rx x) k.0 k.1;
+      «open» = λ l k x. both (opens_keeps l x) k.0 k.1;
+      consume = λ l rx bs k x. both (consumes_keeps l rx bs x) k.0 k.1;
+      poll = λ l tx rx _ k x. both (polls_keeps l tx rx x) k.0 k.1;
     }
   where
     both : {c d : Choices} → c ≡ d → Plain d → d.reading ≡ Crate → Plain c × (c.reading ≡ Crate)
@@ -153,7 +153,7 @@ chosen_lasts =
 
 held_lasts : Lasts (λ l. Held l.ppp)
 held_lasts =
-    lasts-by (λ l. Held l.ppp) (λ r p k. k) (λ r p k. phase_held p k) (λ r p pkt bytes other done k. received-held p pkt k bytes other done)
+    lasts_by (λ l. Held l.ppp) (λ r p k. k) (λ r p k. phase_held p k) (λ r p pkt bytes other done k. received-held p pkt k bytes other done)
     (λ name password c b d _.
     let both = name ++ password in
     let filled = each_append (λ x. x < 256) both (replicate (max_credentials - length both) 0) (each_append (λ x. x < 256) name password b d) (zeros (max_credentials - length both)) in
@@ -174,7 +174,7 @@ lasting_lasts =
 
 fit_lasts : Lasts (λ l. CredentialsFit l.ppp.auth.credentials)
 fit_lasts =
-    lasts-by (λ l. CredentialsFit l.ppp.auth.credentials) (λ r p w. w) (λ r p w. phase_fit p w) (λ r p pkt _ _ _ w. received-fit p pkt w)
+    lasts_by (λ l. CredentialsFit l.ppp.auth.credentials) (λ r p w. w) (λ r p w. phase_fit p w) (λ r p pkt _ _ _ w. received-fit p pkt w)
     (λ name password c _ _ h.
     let both = name ++ password in
     record {
@@ -185,7 +185,7 @@ fit_lasts =
 
 framed_lasts : Lasts (λ l. reader.Framed l.frame_reader)
 framed_lasts =
-    lasts-by (λ l. reader.Framed l.frame_reader) (λ r p _ e. absurd (false≢true e)) (λ r p k. k) (λ r p pkt _ _ _ k. k) (λ name password c _ _ _. fresh_framed c.reading) (λ r p k. k)
+    lasts_by (λ l. reader.Framed l.frame_reader) (λ r p _ e. absurd (false≢true e)) (λ r p k. k) (λ r p pkt _ _ _ k. k) (λ name password c _ _ _. fresh_framed c.reading) (λ r p k. k)
     (λ l rx bs k. consumed_framed (held_by l rx) bs k)
 
 pub all_last : AllLast

@@ -19,7 +19,7 @@ use Rattle.link.specs.Frames.{frames}
 use Rattle.link.specs.Link as ours
 use Rattle.link.specs.declared.pppos.PPPoS.{PPPoS}
 use Rattle.link.proofs.Reached.{reached_sound}
-use Rattle.original.specs.Run.{returns, panics, pollSlice}
+use Rattle.original.specs.Run.{returns, panics, poll_slice}
 use Rattle.original.specs.Framing.{new_writer}
 use Rattle.original.specs.Pppos as theirs
 use Rattle.original.specs.View.{view_link}
@@ -27,7 +27,7 @@ use Rattle.original.specs.Domain.{Lasting, InDomain}
 use Rattle.original.specs.Panics.{dropped, SamePoll, same, refuses}
 use Rattle.original.proofs.Reader.{receive_is}
 use Rattle.original.proofs.Received as received
-use Rattle.original.proofs.Poll.{poll_is, rest-same}
+use Rattle.original.proofs.Poll.{poll_is, rest_same}
 use Rattle.original.proofs.Refused.{refused_at}
 use Rattle.original.proofs.Polls.{mid, other_protocols, refused_is, received-same}
 
@@ -53,7 +53,7 @@ module _ (l : PPPoS) (tx rx : List ℕ) (d : InDomain l rx) (framed : Framed l.f
   between e =
       let come : theirs.handle_input (view_link l) tx rx ≡ returns (theirs.goes_on (view_link l) (new_writer tx) rx) = rw (receive_is l.frame_reader framed, e) refl in
       rw (poll_is (view_link l) tx rx come, e, le-ltb (length rx) l.frame_reader.len d.lent.room)
-      (rest-same l tx rx l.frame_reader l.ppp (lasting_held d.lasting) (λ _ h. ready (reached_sound h)) [] false 0 (omega arith) d.lasting.crate_reading come)
+      (rest_same l tx rx l.frame_reader l.ppp (lasting_held d.lasting) (λ _ h. ready (reached_sound h)) [] false 0 (omega arith) d.lasting.crate_reading come)
 
   -- a packet is fetched
   module _ (e : is_complete l.frame_reader.state ≡ true) where
@@ -83,7 +83,7 @@ module _ (l : PPPoS) (tx rx : List ℕ) (d : InDomain l rx) (framed : Framed l.f
         rw (mine, le-leb 2 (length pkt) h, t)
         (received-same l tx rx (lasting_held d.lasting) d.lent.bytes d.lasting.crate_reading to least most h t other)))
         (λ h.
-        let short : theirs.poll (view_link l) tx rx ≡ panics pollSlice = poll_is (view_link l) tx rx {x = panics pollSlice} (come ∙ rw (lt-ltb (length pkt) 2 h) refl) in
+        let short : theirs.poll (view_link l) tx rx ≡ panics poll_slice = poll_is (view_link l) tx rx {x = panics poll_slice} (come ∙ rw (lt-ltb (length pkt) 2 h) refl) in
         let no : (received_of l.ppp pkt).outcome ≡ Refused PacketShort = rw (lt-ltb (length pkt) 2 h) refl in
         rw (short, mine, lt-leb 2 (length pkt) h, refused_is l (fetched l.frame_reader) tx rx pkt no) (refuses (dropped PacketShort (refused_at PacketShort refl) refl)))
 

@@ -14,12 +14,12 @@ use Rattle.options.specs.declared.ipv4cp.Ipv4cp as ipv4cp
 use Rattle.options.specs.declared.proto.Proto.TheVariants as proto
 use Rattle.negotiation.specs.declared.states.State.{State}
 use Rattle.negotiation.specs.declared.states.State.TheVariants.{Closed, ReqSent, AckReceived, AckSent, Opened}
-use Rattle.negotiation.specs.declared.pap.PapState as papState
+use Rattle.negotiation.specs.declared.pap.PapState as pap_state
 use Rattle.negotiation.specs.declared.auth.Auth as auth
 use Rattle.phases.specs.declared.ppp.Phase.TheVariants.{Dead}
 use Rattle.phases.specs.declared.ppp.Ppp as ppp
 use Rattle.phases.proofs.Sounds.{Ready}
-use Rattle.original.specs.Run.{Place, Run, returns, panics, fsmOpen}
+use Rattle.original.specs.Run.{Place, Run, returns, panics, fsm_open}
 use Rattle.original.specs.Wire.{Packet, Options, PPP}
 use Rattle.original.specs.Fsm as fsm
 use Rattle.original.specs.Protocols.{lcp_protocol, ipv4cp_protocol, is_pap_opened}
@@ -51,28 +51,28 @@ unfoldable pub ipv4cp_packet : ℕ → ipv4cp.Ipv4cp → Packet
 ipv4cp_packet i x = fsm.packet_of ipv4cp_protocol (PPP 1 (next_id i) (Options (ipv4cp_stands.own x).opts))
 
 pub open_lcp_lem : (i : ℕ) (x : lcp.Lcp)
-    → fsm.openFsm lcp_protocol (record { id = i; state = fsm.Closed; proto = view_lcp x }) ≡ returns (record { fsm = record { id = next_id i; state = fsm.ReqSent; proto = view_lcp x }; packet = lcp_packet i x })
-unfolding fsm.openFsm lcp_packet
+    → fsm.open_fsm lcp_protocol (record { id = i; state = fsm.Closed; proto = view_lcp x }) ≡ returns (record { fsm = record { id = next_id i; state = fsm.ReqSent; proto = view_lcp x }; packet = lcp_packet i x })
+unfolding fsm.open_fsm lcp_packet
 open_lcp_lem i x = request-sent lcp_protocol proto.Lcp view_lcp lcp_stands i ReqSent x
 
 pub open_ipv4cp_lem : (i : ℕ) (x : ipv4cp.Ipv4cp)
-    → fsm.openFsm ipv4cp_protocol (record { id = i; state = fsm.Closed; proto = view_ipv4cp x }) ≡ returns (record { fsm = record { id = next_id i; state = fsm.ReqSent; proto = view_ipv4cp x }; packet = ipv4cp_packet i x })
-unfolding fsm.openFsm ipv4cp_packet
+    → fsm.open_fsm ipv4cp_protocol (record { id = i; state = fsm.Closed; proto = view_ipv4cp x }) ≡ returns (record { fsm = record { id = next_id i; state = fsm.ReqSent; proto = view_ipv4cp x }; packet = ipv4cp_packet i x })
+unfolding fsm.open_fsm ipv4cp_packet
 open_ipv4cp_lem i x = request-sent ipv4cp_protocol proto.Ipv4cp view_ipv4cp ipv4cp_stands i ReqSent x
 
 -- not Closed: the assert
-pub opens_not : {P : Type 0} (T : fsm.Protocol P) (f : fsm.OptionFsm P) → fsm.is_closed f.state ≡ false → fsm.openFsm T f ≡ panics fsmOpen
-unfolding fsm.openFsm
+pub opens_not : {P : Type 0} (T : fsm.Protocol P) (f : fsm.OptionFsm P) → fsm.is_closed f.state ≡ false → fsm.open_fsm T f ≡ panics fsm_open
+unfolding fsm.open_fsm
 opens_not T f e = rw e refl
 
 pub auth_opened_is : (a : auth.Auth) → is_pap_opened (view_pap_state a.pap.state) ≡ is_auth_opened a
 unfolding is_auth_opened
 auth_opened_is a = go a.pap.state refl
   where
-    go : (s : papState.PapState) → a.pap.state ≡ s → is_pap_opened (view_pap_state a.pap.state) ≡ is_auth_opened a
-    go papState.TheVariants.Closed e = rw e refl
-    go papState.TheVariants.ReqSent e = rw e refl
-    go papState.TheVariants.Opened e = rw e refl
+    go : (s : pap_state.PapState) → a.pap.state ≡ s → is_pap_opened (view_pap_state a.pap.state) ≡ is_auth_opened a
+    go pap_state.TheVariants.Closed e = rw e refl
+    go pap_state.TheVariants.ReqSent e = rw e refl
+    go pap_state.TheVariants.Opened e = rw e refl
 
 settle_is : (q : ppp.Ppp) → theirs.settle (view_ppp q) ≡ view_ppp (ours.settled q)
 settle_is q = rw (closed_is q.lcp.state) (sym (cond_ap view_ppp (is_closed q.lcp.state && not q.opening) (ours.with_phase q Dead) q))
@@ -89,10 +89,10 @@ shut_pap_lem : (q : ppp.Ppp) → theirs.shut_pap (view_ppp q) ≡ view_ppp (ours
 unfolding closed_auth
 shut_pap_lem q = go q.auth.pap.state refl
   where
-    go : (s : papState.PapState) → q.auth.pap.state ≡ s → theirs.shut_pap (view_ppp q) ≡ view_ppp (ours.closes_auth q)
-    go papState.TheVariants.Closed e = rw e refl
-    go papState.TheVariants.ReqSent e = rw e refl
-    go papState.TheVariants.Opened e = rw e refl
+    go : (s : pap_state.PapState) → q.auth.pap.state ≡ s → theirs.shut_pap (view_ppp q) ≡ view_ppp (ours.closes_auth q)
+    go pap_state.TheVariants.Closed e = rw e refl
+    go pap_state.TheVariants.ReqSent e = rw e refl
+    go pap_state.TheVariants.Opened e = rw e refl
 
 pub shut_ipv4cp_lem : (q : ppp.Ppp) → theirs.shut_ipv4cp (view_ppp q) ≡ view_ppp (ours.closes_ipv4cp q)
 shut_ipv4cp_lem q = go q.ipv4cp.state refl

@@ -28,8 +28,8 @@ use Rattle.link.specs.declared.refusal.Outcome.TheVariants.{Refused}
 use Rattle.link.specs.declared.choices.Choices.{Choices}
 use Rattle.link.specs.declared.pppos.PPPoS.{PPPoS}
 use Rattle.link.specs.declared.pppos.PPPoSAction.{PPPoSAction}
-use Rattle.link.proofs.Polling.{poll-short}
-use Rattle.original.specs.Run.{Place, Run, returns, panics, ◌>>=◌, readerLen, readerSlice, pollRange}
+use Rattle.link.proofs.Polling.{poll_short}
+use Rattle.original.specs.Run.{Place, Run, returns, panics, ◌>>=◌, reader_len, reader_slice, poll_range}
 use Rattle.original.specs.Framing as framing
 use Rattle.original.specs.Framing.{receive, range, feed_in, consume_from}
 use Rattle.original.specs.Pppos as theirs
@@ -42,12 +42,12 @@ use Rattle.original.proofs.Reader.{complete_is, receive_is}
 use Rattle.original.proofs.Calls.{new_over, new_panics}
 use Rattle.original.proofs.Link.{same-poll}
 use Rattle.original.proofs.SameLink.{polls_same, by_framed, poll_unframed, same_link}
-use Rattle.original.proofs.History.{history-kept, history-reached, same-history}
+use Rattle.original.proofs.History.{history_kept, history_reached, same-history}
 
 -- ---- the reader
 
 unfetched : {r r' : FrameReader} {g : Got} → reader.Receives r g r' → reader.is_complete r.state ≡ true → r.len < 3
-    → (reader.got_number g ≡ number_at readerLen) × (receive (view_reader r) ≡ cond (ltb r.len 2) (panics readerLen) (returns (range 1 0 (view_reader r'))))
+    → (reader.got_number g ≡ number_at reader_len) × (receive (view_reader r) ≡ cond (ltb r.len 2) (panics reader_len) (returns (range 1 0 (view_reader r'))))
 unfolding receive
 unfetched {r} {r'} c e h = (
   c.number ∙ rw (e, lt-ltb r.len 3 h) refl,
@@ -61,18 +61,18 @@ unfetched {r} {r'} c e h = (
 
 short_poll : (l : PPPoS) (tx rx : List ℕ) → length rx < l.frame_reader.len
     → (poll_link l tx rx ≡ declined (Framing BufferShort) l tx rx)
-    × (reader.is_complete l.frame_reader.state ≡ true → 3 ≤ l.frame_reader.len → length rx + 2 < l.frame_reader.len → (theirs.poll (view_link l) tx rx ≡ panics pollRange) × (number_at pollRange ≡ 3))
+    × (reader.is_complete l.frame_reader.state ≡ true → 3 ≤ l.frame_reader.len → length rx + 2 < l.frame_reader.len → (theirs.poll (view_link l) tx rx ≡ panics poll_range) × (number_at poll_range ≡ 3))
 unfolding theirs.poll theirs.handle_input
 short_poll l tx rx h =
     let n = l.frame_reader.len in (
-      poll-short l tx rx h,
+      poll_short l tx rx h,
       λ e three over. (rw (receive_is l.frame_reader (λ _. three), e, le-ltb (n - 2) 1 (omega arith), lt-ltb (length rx) (n - 2) (omega arith)) refl, refl),
     )
 
 -- a run that panics at the check of a frame's end only
 abbrev Checks : {A : Type 0} → Run A → Type 0
 Checks (returns a) = Unit {0}
-Checks (panics p) = p ≡ readerSlice
+Checks (panics p) = p ≡ reader_slice
 
 checks_then : {A B : Type 0} (x : Run A) (f : A → Run B) → Checks x → ((a : A) → Checks (f a)) → Checks (x >>= f)
 checks_then (returns a) f c d = d a
@@ -96,22 +96,22 @@ consume_checks i r buf (b ∷ bs) =
     cond_all (λ (x : Run framing.Consumed). Checks x) (framing.is_complete r.state) tt
     (checks_then (feed_in r.state r buf b) (λ f. consume_from (i + 1) f.reader f.buf bs) (feed_checks r.state r buf b) (λ f. consume_checks (i + 1) f.reader f.buf bs))
 
-checked : {A : Type 0} {x : Run A} → Checks x → (p : Place) → x ≡ panics p → p ≡ readerSlice
+checked : {A : Type 0} {x : Run A} → Checks x → (p : Place) → x ≡ panics p → p ≡ reader_slice
 checked c p e = rw e at c
 
 short_consume : (l : PPPoS) (rx bs : List ℕ) → length rx < l.frame_reader.len → {o : Outcome} {n : ℕ} {l' : PPPoS} {rx' : List ℕ} → Consumes l rx bs o n l' rx'
     → (o ≡ Refused (Framing BufferShort)) × (n ≡ 0) × (l' ≡ l) × (rx' ≡ rx)
-    × ((place : Place) → theirs.consume_link (view_link l) bs rx ≡ panics place → (place ≡ readerSlice) × (outcome_number o ≡ number_at place))
+    × ((place : Place) → theirs.consume_link (view_link l) bs rx ≡ panics place → (place ≡ reader_slice) × (outcome_number o ≡ number_at place))
 short_consume l rx bs h {o} c =
     let e = consumed_short (held_by l rx) bs h in
     let refused : o ≡ Refused (Framing BufferShort) = c.outcome ∙ rw (lt-ltb (length rx) l.frame_reader.len h) refl in
-    (refused, c.count ∙ rw (e, sub_self) refl, c.link ∙ rw e refl, c.bytes ∙ rw e refl, λ p k. let at : p ≡ readerSlice = checked (all l rx bs) p k in (at, ap outcome_number refused ∙ sym (ap number_at at)))
+    (refused, c.count ∙ rw (e, sub_self) refl, c.link ∙ rw e refl, c.bytes ∙ rw e refl, λ p k. let at : p ≡ reader_slice = checked (all l rx bs) p k in (at, ap outcome_number refused ∙ sym (ap number_at at)))
   where
     all : (l : PPPoS) (rx bs : List ℕ) → Checks (theirs.consume_link (view_link l) bs rx)
     all l rx bs = checks_then (consume_from 0 (view_reader l.frame_reader) rx bs) _ (consume_checks 0 (view_reader l.frame_reader) rx bs) (λ _. tt)
 
 short_end : (l : PPPoS) (rx bs : List ℕ) → length rx < l.frame_reader.len → 3 ≤ l.frame_reader.len → l.frame_reader.state ≡ reading.Data → get_or rx 0 0x03 ≡ 0x03
-    → theirs.consume_link (view_link l) (0x7E ∷ bs) rx ≡ panics readerSlice
+    → theirs.consume_link (view_link l) (0x7E ∷ bs) rx ≡ panics reader_slice
 unfolding consume_from
 short_end l [] bs h three e first = rw (e, le-ltb l.frame_reader.len 3 three) refl
 short_end l (x ∷ rx) bs h three e first =
@@ -129,14 +129,14 @@ first_panic {l} h {r} run {c} {a} {l'} call {place} e =
         → ◌>>=◌ {B = Answered} x (λ p. returns (record { answer = history.acted p.action p.tx p.rx; link = p.link })) ≡ panics place → Stopped l place (history.polls tx rx) (history.acted a tx' rx') l'
     polled x (same s) e = apart cc
     polled x (refuses {place = p} s) e = let z : p ≡ place = cc in stopped (rw z at s)
-    polled x (opens unreached b m w f k i) e = absurd (unreached h.choices (history-reached h))
+    polled x (opens unreached b m w f k i) e = absurd (unreached h.choices (history_reached h))
 
     by_call : {c : Call} {a : OurAnswer} {l' : PPPoS} → Called l c a l' → call_of (view_link l) c ≡ panics place → Stopped l place c a l'
     by_call (history.by_open c) e = apart cc
     by_call history.by_status e = apart cc
-    by_call (history.by_consume {bs} {rx} b lent c) e = let z = (same_link.consume l rx bs (history-kept h).lasting.plain (history-kept h).lasting.crate_reading lent b c).1 in apart cc
+    by_call (history.by_consume {bs} {rx} b lent c) e = let z = (same_link.consume l rx bs (history_kept h).lasting.plain (history_kept h).lasting.crate_reading lent b c).1 in apart cc
     by_call (history.by_poll {tx} {rx} lent c) e =
-        polled (theirs.poll (view_link l) tx rx) (polls_same l tx rx (record { lasting = (history-kept h).lasting; lent = lent }) (history-kept h).framed c) e
+        polled (theirs.poll (view_link l) tx rx) (polls_same l tx rx (record { lasting = (history_kept h).lasting; lent = lent }) (history_kept h).framed c) e
     by_call (history.by_send b c) e = apart cc
 
 pub at_panics : AtPanics

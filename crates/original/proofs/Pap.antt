@@ -17,14 +17,14 @@ use Rattle.options.specs.Wire.{length_field}
 use Rattle.options.specs.declared.refusal.Refusal.TheVariants.{PapPast}
 use Rattle.options.specs.declared.refusal.Outcome.TheVariants.{Done}
 use Rattle.negotiation.specs.declared.auth.Auth as auth
-use Rattle.negotiation.specs.declared.pap.PapState as papState
+use Rattle.negotiation.specs.declared.pap.PapState as pap_state
 use Rattle.negotiation.proofs.CredentialLaws.{credentials_short}
 use Rattle.original.specs.Run.{Place, Run, returns, panics}
 use Rattle.original.specs.Wire.{PAP, Credentials, PPP, code_from}
 use Rattle.original.specs.Protocols as theirs
 use Rattle.original.specs.View.{view_pap_state, view_pap}
 use Rattle.original.specs.Panics.{RefusedAt}
-use Rattle.original.proofs.Bytes.{each_take, each-drop}
+use Rattle.original.proofs.Bytes.{each_take, each_drop}
 use Rattle.original.proofs.Frames.{Carries, Carried, none, more}
 use Rattle.original.proofs.Packets.{carries_ppp, bytes_append}
 use Rattle.original.proofs.Refused.{refused_at}
@@ -40,14 +40,14 @@ pub data SamePap : Run theirs.PapHandled → AuthReaction → Type 0 where
   same : {h : theirs.PapHandled} {t : AuthReaction} → h.pap ≡ view_pap t.auth → Held t.auth → t.outcome ≡ Done → Carried h.tx t.sent → SamePap (returns h) t
   stops : {p : Place} {t : AuthReaction} → RefusedAt p t.outcome → SamePap (panics p) t
 
-sent_is : (s : papState.PapState) → theirs.is_pap_sent (view_pap_state s) ≡ ours.is_pap_sent s
-sent_is papState.TheVariants.Closed = refl
-sent_is papState.TheVariants.ReqSent = refl
-sent_is papState.TheVariants.Opened = refl
+sent_is : (s : pap_state.PapState) → theirs.is_pap_sent (view_pap_state s) ≡ ours.is_pap_sent s
+sent_is pap_state.TheVariants.Closed = refl
+sent_is pap_state.TheVariants.ReqSent = refl
+sent_is pap_state.TheVariants.Opened = refl
 
 module _ (u : auth.Auth) (held : Held u) where
-  pub request-carries : Carries (record { proto = PAP; payload = PPP 1 ((u.pap.id + 1) % 256) (Credentials (name_of u.credentials) (password_of u.credentials)) }) (ours.pap_bytes u.credentials u.pap)
-  request-carries =
+  pub request_carries : Carries (record { proto = PAP; payload = PPP 1 ((u.pap.id + 1) % 256) (Credentials (name_of u.credentials) (password_of u.credentials)) }) (ours.pap_bytes u.credentials u.pap)
+  request_carries =
       let p = u.pap in
       let c = u.credentials in
       let name = name_of c in
@@ -55,7 +55,7 @@ module _ (u : auth.Auth) (held : Held u) where
       let short = credentials_short c in
       let P : ℕ → Type 0 = λ x. x < 256 in
       let first : Bytes name = each_take P (name_len c) c.bytes held.bytes in
-      let second : Bytes word = each_take P (password_len c) (drop (name_len c) c.bytes) (each-drop P (name_len c) c.bytes held.bytes) in
+      let second : Bytes word = each_take P (password_len c) (drop (name_len c) c.bytes) (each_drop P (name_len c) c.bytes held.bytes) in
       let a : length name % 256 ≡ length name = mod-eq_of_lt (omega arith) in
       let b : length word % 256 ≡ length word = mod-eq_of_lt (omega arith) in
       carries_ppp PAP 0xC023 1 _ (Credentials name word) (ours.credential_bytes name word) refl (lit< tt) (mod-lt (p.id + 1) {m = 256} (lit< tt))
@@ -69,16 +69,16 @@ module _ (u : auth.Auth) (held : Held u) where
 
   request-same : SamePap (returns (theirs.send_pap_request (view_pap u))) (by_pap u (ours.pap_requested u.credentials u.pap))
   unfolding ours.pap_requested
-  request-same = same refl stepped-held refl (more request-carries none)
+  request-same = same refl stepped-held refl (more request_carries none)
 
-  act-same : (c : ℕ) → SamePap (returns (theirs.pap_act (view_pap u) (code_from c))) (by_pap u (ours.pap_act_of u.credentials u.pap c))
+  act_same : (c : ℕ) → SamePap (returns (theirs.pap_act (view_pap u) (code_from c))) (by_pap u (ours.pap_act_of u.credentials u.pap c))
   unfolding theirs.pap_act ours.pap_act_of
-  act-same c =
+  act_same c =
       rw (code_is c 2 (lit< tt) (lit≤ tt), code_is c 3 (lit< tt) (lit≤ tt), sent_is u.pap.state)
       (go (ours.is_pap_sent u.pap.state) (eqb c 2) (eqb c 3))
     where
       go : (s a b : Bool) → SamePap (returns (cond (a && s) (record { pap = theirs.with_pap_state (view_pap u) theirs.PapOpened; tx = [] }) (cond (b && s) (theirs.send_pap_request (view_pap u)) (record { pap = view_pap u; tx = [] }))))
-          (by_pap u (cond (s && a) (ours.pap_reacts (ours.with_pap_state u.pap papState.TheVariants.Opened) []) (cond (s && b) (ours.pap_requested u.credentials u.pap) (ours.pap_reacts u.pap []))))
+          (by_pap u (cond (s && a) (ours.pap_reacts (ours.with_pap_state u.pap pap_state.TheVariants.Opened) []) (cond (s && b) (ours.pap_requested u.credentials u.pap) (ours.pap_reacts u.pap []))))
       go true true b = same refl (record { id = held.id; bytes = held.bytes }) refl none
       go true false true = request-same
       go true false false = same refl held refl none
@@ -94,4 +94,4 @@ module _ (u : auth.Auth) (held : Held u) where
       cond_both P {t = ltb (length pkt) 6} refl (λ _. same refl held refl none)
       (λ _. cond_both P {t = ltb (length pkt) (length_field pkt)} refl (λ _. same refl held refl none)
       (λ _. cond_both P {t = ltb (length pkt) (length_field pkt + 2)} refl (λ _. stops (refused_at PapPast refl))
-      (λ _. act-same (get_or pkt 2 0))))
+      (λ _. act_same (get_or pkt 2 0))))

@@ -77,9 +77,9 @@ module _ (l : PPPoS) (tx rx : List ℕ) (r : FrameReader) (q : Ppp) (held : Held
           sym (rw zero-add at (sets_append f g tx 0) ∙ rw n at (sets_front (f ++ g) tx (rw n h)))
 
   -- the rest of a poll, where the original has come to it
-  pub rest-same : theirs.handle_input (view_link l) tx rx ≡ returns (theirs.goes_on (view_link (ours.link_of r q)) w (ours.echoed_in e rx))
+  pub rest_same : theirs.handle_input (view_link l) tx rx ≡ returns (theirs.goes_on (view_link (ours.link_of r q)) w (ours.echoed_in e rx))
       → SamePoll l tx rx (theirs.poll_rest (view_link (ours.link_of r q)) w (ours.echoed_in e rx)) (ours.answered_poll l r turn tx rx)
-  rest-same come = go (ppp.poll_ppp (view_ppp q)) refl (phase_same q held)
+  rest_same come = go (ppp.poll_ppp (view_ppp q)) refl (phase_same q held)
     where
       go : (x : Run ppp.Polled) → ppp.poll_ppp (view_ppp q) ≡ x → opening.SamePhase q x
           → SamePoll l tx rx (theirs.poll_rest (view_link (ours.link_of r q)) w (ours.echoed_in e rx)) (ours.answered_poll l r turn tx rx)

@@ -20,7 +20,7 @@ use Rattle.phases.specs.Phases.{Turn, phase_of, turn_of, received_of}
 use Rattle.options.specs.declared.refusal.Refusal.{Refusal}
 use Rattle.options.specs.declared.refusal.Refusal.TheVariants.{ReplyLong}
 use Rattle.options.specs.declared.refusal.Outcome.TheVariants.{Done, Refused}
-use Rattle.phases.proofs.Phasing.{turn-refused, turn-done, received_sends}
+use Rattle.phases.proofs.Phasing.{turn_refused_lem, turn_done, received_sends}
 use Rattle.phases.proofs.Sounds.{ready_received}
 use Rattle.link.specs.Frames.{frames}
 use Rattle.link.specs.Link as ours
@@ -28,18 +28,18 @@ use Rattle.link.proofs.Reached.{reached_sound}
 use Rattle.link.specs.declared.refusal.Refusal.TheVariants.{Negotiation}
 use Rattle.link.specs.declared.pppos.PPPoS.{PPPoS}
 use Rattle.link.proofs.Sending.{frames-append}
-use Rattle.original.specs.Run.{Place, Run, returns, panics, reply_long, replyFull}
+use Rattle.original.specs.Run.{Place, Run, returns, panics, reply_long, reply_full}
 use Rattle.original.specs.Framing.{FrameWriter, new_writer}
 use Rattle.original.specs.Wire.{Packet, packet_len, protocol_from}
 use Rattle.original.specs.Ppp as ppp
 use Rattle.original.specs.Pppos as theirs
 use Rattle.original.specs.View.{view_ppp, view_link}
 use Rattle.original.specs.Panics.{full, dropped, SamePoll, refuses}
-use Rattle.original.proofs.Bytes.{each_take, each-drop}
+use Rattle.original.proofs.Bytes.{each_take, each_drop}
 use Rattle.original.proofs.Frames.{Carried, poll_writer, crc_after, transmit_all_lem}
 use Rattle.original.proofs.Refused.{refused_at, refused_so}
 use Rattle.original.proofs.Received as received
-use Rattle.original.proofs.Poll.{poll_is, rest-same}
+use Rattle.original.proofs.Poll.{poll_is, rest_same}
 
 -- the receive buffer, once the packet is back
 back_is : (rx : List ℕ) (to : ℕ) (o : Bool) → 1 ≤ to → to ≤ length rx → (o ≡ true → 2 < length (take (to - 1) (drop 1 rx)))
@@ -66,7 +66,7 @@ other_protocols l w from to rx pkt n other =
 pub refused_is : (l : PPPoS) (r : FrameReader) (tx rx pkt : List ℕ) {why : Refusal} → (received_of l.ppp pkt).outcome ≡ Refused why
     → ours.answered_poll l r (turn_of l.ppp pkt) tx rx ≡ ours.declined (Negotiation why) (ours.link_of r l.ppp) tx rx
 unfolding ours.answered_poll
-refused_is l r tx rx pkt e = rw (turn-refused l.ppp pkt e) refl
+refused_is l r tx rx pkt e = rw (turn_refused_lem l.ppp pkt e) refl
 
 module _ (l : PPPoS) (tx rx : List ℕ) (held : received.Held l.ppp) (bytes : Bytes rx) (crate : l.frame_reader.reading ≡ Crate) where
   abbrev pub next : FrameReader
@@ -114,11 +114,11 @@ module _ (l : PPPoS) (tx rx : List ℕ) (held : received.Held l.ppp) (bytes : By
           wrote v all
           ∙ ap (λ (x : ppp.Ppp). returns (theirs.goes_on (theirs.with_ppp mid x) v (take 1 rx ++ (r.pkt ++ drop to rx)))) a
           ∙ ap (λ (x : List ℕ). returns (theirs.goes_on (theirs.with_ppp mid (view_ppp t.ppp)) v x)) back in
-          rw (poll_is (view_link l) tx rx here, turn-done l.ppp pkt o) (rest-same l tx rx next t.ppp h (λ _ z. ready_received pkt (reached_sound z)) t.sent t.echoed (crc_after 0 t.sent) fits crate here))
+          rw (poll_is (view_link l) tx rx here, turn_done l.ppp pkt o) (rest_same l tx rx next t.ppp h (λ _ z. ready_received pkt (reached_sound z)) t.sent t.echoed (crc_after 0 t.sent) fits crate here))
           (λ over.
           let g = frames (phase_of t.ppp).sent in
-          let none : theirs.transmit_all (new_writer tx) r.tx ≡ panics replyFull = wrote-all ∙ rw (lt-leb (length f) (length tx) over) refl in
-          rw (stopped replyFull none, turn-done l.ppp pkt o, frames-append t.sent (phase_of t.ppp).sent, length-append f g, lt-leb (length f + length g) (length tx) (omega arith)) (refuses (full refl refl)))
+          let none : theirs.transmit_all (new_writer tx) r.tx ≡ panics reply_full = wrote-all ∙ rw (lt-leb (length f) (length tx) over) refl in
+          rw (stopped reply_full none, turn_done l.ppp pkt o, frames-append t.sent (phase_of t.ppp).sent, length-append f g, lt-leb (length f + length g) (length tx) (omega arith)) (refuses (full refl refl)))
 
       -- a packet above 128 bytes
       too_long : (q : Packet) → r.tx ≡ q ∷ [] → max_packet < packet_len q → t.outcome ≡ Refused ReplyLong → Goal
@@ -128,7 +128,7 @@ module _ (l : PPPoS) (tx rx : List ℕ) (held : received.Held l.ppp) (bytes : By
           rw (stopped reply_long long, refused_is l next tx rx pkt o) (refuses (dropped ReplyLong (refused_at ReplyLong refl) refl))
 
     pub received-same : Goal
-    received-same = go (ppp.received (view_ppp l.ppp) pkt) refl (received.received-same l.ppp held pkt two (each_take (λ b. b < 256) (to - 1) (drop 1 rx) (each-drop (λ b. b < 256) 1 rx bytes)) other)
+    received-same = go (ppp.received (view_ppp l.ppp) pkt) refl (received.received-same l.ppp held pkt two (each_take (λ b. b < 256) (to - 1) (drop 1 rx) (each_drop (λ b. b < 256) 1 rx bytes)) other)
       where
         go : (x : Run ppp.Received) → ppp.received (view_ppp l.ppp) pkt ≡ x → received.SameReceived pkt x t → Goal
         go x run (received.same a h o d k c) = replies run a h o d k c

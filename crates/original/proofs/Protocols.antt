@@ -21,7 +21,7 @@ use Rattle.options.specs.declared.ipv4cp.Ipv4cp as ipv4cp
 use Rattle.options.specs.declared.ipv4cp.IpOption as ip
 use Rattle.original.specs.Run.{returns}
 use Rattle.original.specs.Wire.{OptionVal}
-use Rattle.original.specs.Fsm.{pushOwn}
+use Rattle.original.specs.Fsm.{push_own}
 use Rattle.original.specs.Protocols.{lcp_protocol, ipv4cp_protocol, lcp_received, own_ip, ip_nacked, ipv4cp_received, ipv4cp_nacked}
 use Rattle.original.specs.View.{view_lcp, view_ip, view_ipv4cp}
 use Rattle.original.proofs.Packets.{Lists, lists_none, lists_more, bytes_be}
@@ -35,7 +35,7 @@ one_more c v small h = lists_more c (be_bytes 4 v) h small (bytes_be 4 v) (rw (l
 -- ---- LCP
 
 own_lcp_lem : (p : lcp.Lcp) → Own lcp_protocol (view_lcp p) (ours.own_lcp p)
-unfolding pushOwn
+unfolding push_own
 own_lcp_lem p =
     by_test p.asyncmap_rej
     (λ t. rw t (record { opts = []; pushed = refl; lists = lists_none }))
@@ -76,8 +76,8 @@ abbrev opt_of : ℕ → ip.IpOption → List OptionVal
 opt_of c o = cond o.is_rejected [] (record { code = c; value = be_bytes 4 o.address } ∷ [])
 
 push_ip : (os : List OptionVal) (c : ℕ) (o : ip.IpOption) (rest : List (ℕ × List ℕ)) → length os < 6
-    → pushOwn ipv4cp_protocol os (own_ip c (view_ip o) ++ rest) ≡ pushOwn ipv4cp_protocol (os ++ opt_of c o) rest
-unfolding pushOwn
+    → push_own ipv4cp_protocol os (own_ip c (view_ip o) ++ rest) ≡ push_own ipv4cp_protocol (os ++ opt_of c o) rest
+unfolding push_own
 push_ip os c o rest h =
     by_test o.is_rejected (λ t. rw (t, append-nil os) refl)
     (λ t. rw (t, length_be 4 o.address, lt-leb 6 (length os) h) refl)
@@ -89,8 +89,8 @@ lists_ip {os} {l} c o small h =
 opt_short : (c : ℕ) (o : ip.IpOption) → length (opt_of c o) ≤ 1
 opt_short c o = cond_all (λ (l : List OptionVal). length l ≤ 1) o.is_rejected (lit≤ tt) (lit≤ tt)
 
-push_none : (os : List OptionVal) → pushOwn ipv4cp_protocol os [] ≡ returns os
-unfolding pushOwn
+push_none : (os : List OptionVal) → push_own ipv4cp_protocol os [] ≡ returns os
+unfolding push_own
 push_none os = refl
 
 own_ipv4cp_lem : (p : ipv4cp.Ipv4cp) → Own ipv4cp_protocol (view_ipv4cp p) (ours4.own_ipv4cp p)
@@ -104,7 +104,7 @@ own_ipv4cp_lem p =
       opts = second ++ opt_of 131 c;
       pushed =
           push_ip [] 3 a _ (lit< tt) ∙ push_ip first 129 b _ (omega (arith, opt_short 3 a))
-          ∙ ap (λ (l : List (ℕ × List ℕ)). pushOwn ipv4cp_protocol second l) (sym (append-nil (own_ip 131 (view_ip c))))
+          ∙ ap (λ (l : List (ℕ × List ℕ)). push_own ipv4cp_protocol second l) (sym (append-nil (own_ip 131 (view_ip c))))
           ∙ push_ip second 131 c [] (rw length-append (omega (arith, opt_short 3 a, opt_short 129 b))) ∙ push_none (second ++ opt_of 131 c);
       lists = rw (append_assoc (ours4.own_ip a 3) (ours4.own_ip b 129) (ours4.own_ip c 131)) at (lists_ip 131 c (lit< tt) (lists_ip 129 b (lit< tt) (lists_ip 3 a (lit< tt) lists_none)));
     }

@@ -24,7 +24,7 @@ use Rattle.framing.specs.declared.frame_reader.Got.TheVariants.{Packet, Nothing}
 use Rattle.framing.specs.declared.refusal.Outcome.{Outcome}
 use Rattle.framing.proofs.OneAnswer.{gots_differ}
 use Rattle.framing.proofs.Reader.{Kept, step_kept, fed_left_le, consumed-fed, receives_done}
-use Rattle.framing.proofs.SameReading.{step-reading, fed_reading}
+use Rattle.framing.proofs.SameReading.{step_reading, fed_reading}
 use Rattle.original.specs.Run.{Run, returns, ◌>>=◌}
 use Rattle.original.specs.Crc.{crc16}
 use Rattle.original.specs.Framing.{Fed, feed_in, end_of, fed_to, store_of, usize_max, is_complete, consume_from, consume, nothing, range, receive, Address, Complete, Consumed}
@@ -46,25 +46,25 @@ fed_of s = record { reader = view_reader s.reader; buf = s.buf }
 
 -- a frame's end
 module _ (r : reader.FrameReader) (buf : List ℕ) (within : r.len ≤ length buf) (crate : r.reading ≡ Crate) (bytes : Bytes buf) where
-  kept-length : length (take r.len buf) ≡ r.len
-  kept-length = omega (arith, length-take r.len buf)
+  kept_length : length (take r.len buf) ≡ r.len
+  kept_length = omega (arith, length-take r.len buf)
 
   unaborted : ours.aborts r ≡ false
   unaborted = ap (λ (k : Reading). r.escape && not (ours.is_crate k)) crate ∙ and-false r.escape
 
   -- the three tests, with the crate's check value
-  fault-is : ours.fault_of r buf
+  fault_is : ours.fault_of r buf
       ≡ cond (ltb r.len 3) Short (cond (not (eqb (get_or (take r.len buf) 0 0) 0x03)) Control (cond (not (eqb (crc16 0x00FF (take r.len buf)) 0xF0B8)) Check None))
   unfolding ours.fault_in
-  fault-is = rw (unaborted, kept-length, same-crc16 0x00FF (take r.len buf) (each_take (λ b. b < 256) r.len buf bytes)) refl
+  fault_is = rw (unaborted, kept_length, same-crc16 0x00FF (take r.len buf) (each_take (λ b. b < 256) r.len buf bytes)) refl
 
   end_is : end_of (view_reader r) buf ≡ returns (fed_of (ours.held (ours.ended r buf) buf))
   end_is =
       by_le 3 r.len
       (λ h. let first : get_or (take r.len buf) 0 0 ≡ get_or buf 0 0 = get_or-take r.len buf 0 0 (omega arith) in
-      rw (fault-is, first, crate, le-ltb r.len 3 h, ne_eqb (length buf) 0 (λ e. omega arith), le-ltb (length buf) r.len within)
+      rw (fault_is, first, crate, le-ltb r.len 3 h, ne_eqb (length buf) 0 (λ e. omega arith), le-ltb (length buf) r.len within)
       (go (eqb (get_or buf 0 0) 0x03) (eqb (crc16 0x00FF (take r.len buf)) 0xF0B8)))
-      (λ h. rw (fault-is, crate, lt-ltb r.len 3 h) (stay r.escape))
+      (λ h. rw (fault_is, crate, lt-ltb r.len 3 h) (stay r.escape))
     where
       stay : (e : Bool) → ◌≡◌ {A = Run Fed} (returns (record { reader = record { state = Address; escape = e; len = r.len }; buf = buf }))
           (returns (record { reader = record { state = Address; escape = e && true; len = r.len }; buf = buf }))
@@ -120,7 +120,7 @@ unfolding ours.step
 step_steady n s b l p =
     record {
       kept = step_kept n s b p.kept;
-      crate_reading = step-reading s b ∙ p.crate_reading;
+      crate_reading = step_reading s b ∙ p.crate_reading;
       bytes = bytes_kept s.reader.state s b p.bytes l;
     }
 

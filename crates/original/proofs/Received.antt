@@ -49,25 +49,25 @@ pub data SameReceived (pkt : List ℕ) : Run theirs.Received → Turn → Type 0
   stops : {p : Place} {t : Turn} → RefusedAt p t.outcome → SameReceived pkt (panics p) t
 
 module _ (p : ppp.Ppp) (held : Held p) (pkt : List ℕ) where
-  lcp-turn : (h : Run (Handled Lcp)) (t : ours.Reaction) → Same lcp_protocol proto.Lcp view_lcp lcp_stands pkt h t
+  lcp_turn : (h : Run (Handled Lcp)) (t : ours.Reaction) → Same lcp_protocol proto.Lcp view_lcp lcp_stands pkt h t
       → SameReceived pkt (h >>= λ h. returns (record { ppp = theirs.with_lcp (view_ppp p) h.fsm; pkt = h.pkt; tx = h.tx })) (from_lcp p t)
-  lcp-turn h t (automaton.same i s x small a b c d e f) =
+  lcp_turn h t (automaton.same i s x small a b c d e f) =
       rw b (same (ap (theirs.with_lcp (view_ppp p)) a) (record { lcp_id = small; ipv4cp_id = held.ipv4cp_id; auth = held.auth }) c d e f)
-  lcp-turn h t (automaton.long q a b c) = long q a b c
-  lcp-turn h t (automaton.stops f) = stops f
+  lcp_turn h t (automaton.long q a b c) = long q a b c
+  lcp_turn h t (automaton.stops f) = stops f
 
-  ipv4cp-turn : (h : Run (Handled Ipv4cp)) (t : ours.Reaction) → Same ipv4cp_protocol proto.Ipv4cp view_ipv4cp ipv4cp_stands pkt h t
+  ipv4cp_turn : (h : Run (Handled Ipv4cp)) (t : ours.Reaction) → Same ipv4cp_protocol proto.Ipv4cp view_ipv4cp ipv4cp_stands pkt h t
       → SameReceived pkt (h >>= λ h. returns (record { ppp = theirs.with_ipv4cp (view_ppp p) h.fsm; pkt = h.pkt; tx = h.tx })) (from_ipv4cp p t)
-  ipv4cp-turn h t (automaton.same i s x small a b c d e f) =
+  ipv4cp_turn h t (automaton.same i s x small a b c d e f) =
       rw b (same (ap (theirs.with_ipv4cp (view_ppp p)) a) (record { lcp_id = held.lcp_id; ipv4cp_id = small; auth = held.auth }) c d e f)
-  ipv4cp-turn h t (automaton.long q a b c) = long q a b c
-  ipv4cp-turn h t (automaton.stops f) = stops f
+  ipv4cp_turn h t (automaton.long q a b c) = long q a b c
+  ipv4cp_turn h t (automaton.stops f) = stops f
 
-  pap-turn : (h : Run PapHandled) (t : AuthReaction) → pap.SamePap h t
+  pap_turn : (h : Run PapHandled) (t : AuthReaction) → pap.SamePap h t
       → SameReceived pkt (h >>= λ h. returns (record { ppp = theirs.with_pap (view_ppp p) h.pap; pkt = pkt; tx = h.tx })) (from_auth p t)
-  pap-turn h t (pap.same a b c d) =
+  pap_turn h t (pap.same a b c d) =
       same (ap (theirs.with_pap (view_ppp p)) a) (record { lcp_id = held.lcp_id; ipv4cp_id = held.ipv4cp_id; auth = b }) c refl (λ e. absurd (false≢true e)) d
-  pap-turn h t (pap.stops f) = stops f
+  pap_turn h t (pap.stops f) = stops f
 
   reject-same : Bytes pkt → SameReceived pkt (theirs.received_by Unknown (view_ppp p) pkt) (reject_of p pkt)
   unfolding reject_of protocol_reject_of
@@ -89,9 +89,9 @@ module _ (p : ppp.Ppp) (held : Held p) (pkt : List ℕ) where
       let n = protocol_in pkt in
       cond_both (SameReceived pkt) {t = ltb (length pkt) 2} refl (λ t. absurd (omega (arith, ltb-true (length pkt) 2 t)))
       (λ _. by_test (eqb n 0xC021)
-      (λ t. rw t (lcp-turn _ _ (handle-same lcp_protocol proto.Lcp view_lcp lcp_stands p.lcp.id p.lcp.state p.lcp.proto pkt held.lcp_id bytes)))
+      (λ t. rw t (lcp_turn _ _ (handle-same lcp_protocol proto.Lcp view_lcp lcp_stands p.lcp.id p.lcp.state p.lcp.proto pkt held.lcp_id bytes)))
       (λ t. rw t (by_test (eqb n 0xC023)
-      (λ u. rw u (pap-turn _ _ (pap.pap-same p.auth held.auth pkt)))
+      (λ u. rw u (pap_turn _ _ (pap.pap-same p.auth held.auth pkt)))
       (λ u. rw (u, other) (by_test (eqb n 0x8021)
-      (λ v. rw v (ipv4cp-turn _ _ (handle-same ipv4cp_protocol proto.Ipv4cp view_ipv4cp ipv4cp_stands p.ipv4cp.id p.ipv4cp.state p.ipv4cp.proto pkt held.ipv4cp_id bytes)))
+      (λ v. rw v (ipv4cp_turn _ _ (handle-same ipv4cp_protocol proto.Ipv4cp view_ipv4cp ipv4cp_stands p.ipv4cp.id p.ipv4cp.state p.ipv4cp.proto pkt held.ipv4cp_id bytes)))
       (λ v. rw v (reject-same bytes)))))))

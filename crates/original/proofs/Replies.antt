@@ -24,10 +24,10 @@ use Rattle.options.specs.declared.proto.Nacked.{Nacked}
 use Rattle.options.specs.declared.walk.Reply.{Reply}
 use Rattle.options.proofs.Suggesting.{suggestion_bytes}
 use Rattle.options.proofs.Wires.{content_pkt}
-use Rattle.options.proofs.Replying.{listed-lower, listed-long, listed-higher, listed-many, listed_more}
-use Rattle.original.specs.Run.{Place, Run, returns, panics, ◌>>=◌, unwrap, optionsCut}
+use Rattle.options.proofs.Replying.{listed_lower, listed_long, listed_higher, listed_many, listed_more}
+use Rattle.original.specs.Run.{Place, Run, returns, panics, ◌>>=◌, unwrap, options_cut}
 use Rattle.original.specs.Wire.{protocol_number, OptionVal}
-use Rattle.original.specs.Fsm.{Verdict, Ack, Nack, Rej, Protocol, Answer, retOf, rankOption, peerOption, pushOwn, nackOption}
+use Rattle.original.specs.Fsm.{Verdict, Ack, Nack, Rej, Protocol, Answer, ret_of, rank_option, peer_option, push_own, nack_option}
 use Rattle.original.specs.Panics.{RefusedAt}
 use Rattle.original.proofs.Refused.{refused_at}
 use Rattle.original.proofs.Walk.{over, ByteWalk}
@@ -44,7 +44,7 @@ view_verdict s verdict.TheVariants.Rej = Rej
 -- an own request's options
 pub record Own {P : Type 0} (T : Protocol P) (p : P) (l : List ℕ) : Type 0 where
   pub opts : List OptionVal
-  pub pushed : pushOwn T [] (T.own_options p) ≡ returns opts
+  pub pushed : push_own T [] (T.own_options p) ≡ returns opts
   pub lists : Lists opts l
 
 -- X is Lcp or Ipv4cp of ours, and inj makes the case of Proto that it is
@@ -87,15 +87,15 @@ module _ {X P : Type 0} (T : Protocol P) (inj : X → Proto) (view : X → P) (s
     on : {a : Answer P} {r : Reply} → SameReply a r → SameAnswer (returns a) r
     off : {p : Place} {r : Reply} → RefusedAt p r.outcome → SameAnswer (panics p) r
 
-  theirs-ret : (s : List ℕ) (v : verdict.Verdict) (d : List ℕ) → retOf T (view_verdict s v) d ≡ (rank_of v + 2, sent_back v d s)
-  theirs-ret s verdict.TheVariants.Ack d = refl
-  theirs-ret s verdict.TheVariants.Nack d = refl
-  theirs-ret s verdict.TheVariants.Rej d = refl
+  theirs_ret : (s : List ℕ) (v : verdict.Verdict) (d : List ℕ) → ret_of T (view_verdict s v) d ≡ (rank_of v + 2, sent_back v d s)
+  theirs_ret s verdict.TheVariants.Ack d = refl
+  theirs_ret s verdict.TheVariants.Nack d = refl
+  theirs_ret s verdict.TheVariants.Rej d = refl
 
-  back-bytes : (s : List ℕ) (v : verdict.Verdict) (d : List ℕ) → Bytes s → Bytes d → Bytes (sent_back v d s)
-  back-bytes s verdict.TheVariants.Ack d k h = h
-  back-bytes s verdict.TheVariants.Nack d k h = k
-  back-bytes s verdict.TheVariants.Rej d k h = h
+  back_bytes : (s : List ℕ) (v : verdict.Verdict) (d : List ℕ) → Bytes s → Bytes d → Bytes (sent_back v d s)
+  back_bytes s verdict.TheVariants.Ack d k h = h
+  back_bytes s verdict.TheVariants.Nack d k h = k
+  back_bytes s verdict.TheVariants.Rej d k h = h
 
   -- the protocol behind an option, and what was listed before
   abbrev kept : Answer P → X → Answer P
@@ -104,19 +104,19 @@ module _ {X P : Type 0} (T : Protocol P) (inj : X → Proto) (view : X → P) (s
   -- a verdict v on option c, with the value d to be sent back
   module _ (a : Answer P) (r : Reply) (same : SameReply a r) (x : X) (v : verdict.Verdict) (c : ℕ) (d : List ℕ) (small : c < 256) (bytes : Bytes d) where
     abbrev Goal : Type 0
-    Goal = SameAnswer (rankOption T (kept a x) c (rank_of v + 2, d)) (listed_of r (inj x) v c d)
+    Goal = SameAnswer (rank_option T (kept a x) c (rank_of v + 2, d)) (listed_of r (inj x) v c d)
 
     code_is : a.code ≡ rank_of r.verdict + 2
     code_is = same.code ∙ code_rank r.verdict
 
     lower : rank_of v < rank_of r.verdict → Goal
     lower h =
-        rw (listed-lower r (inj x) v c d h, code_is, le-ltb (rank_of r.verdict + 2) (rank_of v + 2) (omega arith), ne_eqb (rank_of r.verdict + 2) (rank_of v + 2) (λ e. omega arith))
+        rw (listed_lower r (inj x) v c d h, code_is, le-ltb (rank_of r.verdict + 2) (rank_of v + 2) (omega arith), ne_eqb (rank_of r.verdict + 2) (rank_of v + 2) (λ e. omega arith))
         (on (record { x = x; proto = refl; case = refl; code = sym (code_rank r.verdict); count = same.count; lists = same.lists; going = same.going; most = same.most; room = same.room }))
 
     long : rank_of r.verdict ≤ rank_of v → 4 < length d → Goal
     long h l =
-        rw (listed-long r (inj x) v c d h l, code_is, lt-ltb 4 (length d) l)
+        rw (listed_long r (inj x) v c d h l, code_is, lt-ltb 4 (length d) l)
         (by_le (rank_of v) (rank_of r.verdict)
         (λ k. rw (le-ltb (rank_of r.verdict + 2) (rank_of v + 2) (omega arith), eq-eqb (rank_of r.verdict + 2) (rank_of v + 2) (omega arith)) (off (refused_at OptionLong refl)))
         (λ k. rw (lt-ltb (rank_of r.verdict + 2) (rank_of v + 2) (omega arith)) (off (refused_at OptionLong refl))))
@@ -125,7 +125,7 @@ module _ {X P : Type 0} (T : Protocol P) (inj : X → Proto) (view : X → P) (s
     higher h l =
         let more : Lists (record { code = c; value = d } ∷ []) (content_of (pkt_of (opt_bytes c d))) = rw content_pkt (lists_more c d lists_none small bytes l) in
         let fits : length (content_of (pkt_of (opt_bytes c d))) ≤ 6 = rw content_pkt (omega arith) in
-        rw (listed-higher r (inj x) v c d h l, code_is, lt-ltb (rank_of r.verdict + 2) (rank_of v + 2) (omega arith), le-ltb 4 (length d) l)
+        rw (listed_higher r (inj x) v c d h l, code_is, lt-ltb (rank_of r.verdict + 2) (rank_of v + 2) (omega arith), le-ltb 4 (length d) l)
         (on (record { x = x; proto = refl; case = refl; code = sym (code_rank v); count = refl; lists = more; going = refl; most = lit≤ tt; room = fits }))
 
     equal : rank_of r.verdict ≡ rank_of v → length d ≤ 4 → Goal
@@ -137,7 +137,7 @@ module _ {X P : Type 0} (T : Protocol P) (inj : X → Proto) (view : X → P) (s
         let same_code : rank_of r.verdict + 2 ≡ code_of v = rw h (sym (code_rank v)) in
         rw (code_is, le-ltb (rank_of r.verdict + 2) (rank_of v + 2) (omega arith), eq-eqb (rank_of r.verdict + 2) (rank_of v + 2) (omega arith), le-ltb 4 (length d) l)
         (by_le 6 r.count
-        (λ k. rw (listed-many r (inj x) v c d h l k, same.count, le-leb 6 r.count k) (off (refused_at OptionsMany refl)))
+        (λ k. rw (listed_many r (inj x) v c d h l k, same.count, le-leb 6 r.count k) (off (refused_at OptionsMany refl)))
         (λ k. rw (listed_more r (inj x) v c d h l k, same.count, lt-leb 6 r.count k)
         (on (record { x = x; proto = refl; case = refl; code = same_code; count = size; lists = more; going = refl; most = omega (arith, same.count); room = fits }))))
 
@@ -147,25 +147,25 @@ module _ {X P : Type 0} (T : Protocol P) (inj : X → Proto) (view : X → P) (s
         (λ h. by_le (length d) 4 (λ l. by_le (rank_of v) (rank_of r.verdict) (λ k. equal (omega arith) l) (λ k. higher k l)) (λ l. long h l))
         lower
 
-  step_same : (a : Answer P) (r : Reply) (c : ℕ) (d : List ℕ) → SameReply a r → c < 256 → Bytes d → SameAnswer (peerOption T a c d) (step_of r c d)
-  unfolding peerOption step_of
+  step_same : (a : Answer P) (r : Reply) (c : ℕ) (d : List ℕ) → SameReply a r → c < 256 → Bytes d → SameAnswer (peer_option T a c d) (step_of r c d)
+  unfolding peer_option step_of
   step_same a r c d same small bytes =
       let x = same.x in
       let v = stands.verdict x c d in
       let theirs = ap (λ (p : P). T.peer_option_received p c d) same.proto ∙ stands.judge_theirs x c d in
       let s = suggestion_of (inj x) in
       let here = ap (λ (p : Proto). judge_of p c d) same.case ∙ stands.judge_ours x c d in
-      rw (theirs, here, ap suggestion_of same.case, theirs-ret s v d)
-      (listed_same a r same (stands.judged x c d) v c (sent_back v d s) small (back-bytes s v d (suggestion_bytes (inj x)) bytes))
+      rw (theirs, here, ap suggestion_of same.case, theirs_ret s v d)
+      (listed_same a r same (stands.judged x c d) v c (sent_back v d s) small (back_bytes s v d (suggestion_bytes (inj x)) bytes))
 
-  pub reply-same : (a : Answer P) (r : Reply) (w : Walk) → SameReply a r → ByteWalk w → SameAnswer (over (peerOption T) a w >>= unwrap optionsCut) (reply_of r w)
+  pub reply_same : (a : Answer P) (r : Reply) (w : Walk) → SameReply a r → ByteWalk w → SameAnswer (over (peer_option T) a w >>= unwrap options_cut) (reply_of r w)
   unfolding reply_of
-  reply-same a r done same b = on same
-  reply-same a r (cut at) same b = off (refused_at (OptionCut at) refl)
-  reply-same a r (opt c d w) same b = go (peerOption T a c d) (step_of r c d) (step_same a r c d same b.0 b.1) (λ a' r' k. reply-same a' r' w k b.2)
+  reply_same a r done same b = on same
+  reply_same a r (cut at) same b = off (refused_at (OptionCut at) refl)
+  reply_same a r (opt c d w) same b = go (peer_option T a c d) (step_of r c d) (step_same a r c d same b.0 b.1) (λ a' r' k. reply_same a' r' w k b.2)
     where
-      go : (t : Run (Answer P)) (s : Reply) → SameAnswer t s → ((a' : Answer P) (r' : Reply) → SameReply a' r' → SameAnswer (over (peerOption T) a' w >>= unwrap optionsCut) (reply_of r' w))
-          → SameAnswer ((t >>= λ a'. over (peerOption T) a' w) >>= unwrap optionsCut) (cond (is_done s.outcome) (reply_of s w) s)
+      go : (t : Run (Answer P)) (s : Reply) → SameAnswer t s → ((a' : Answer P) (r' : Reply) → SameReply a' r' → SameAnswer (over (peer_option T) a' w >>= unwrap options_cut) (reply_of r' w))
+          → SameAnswer ((t >>= λ a'. over (peer_option T) a' w) >>= unwrap options_cut) (cond (is_done s.outcome) (reply_of s w) s)
       go (returns a') s (on k) ih = rw (ap is_done k.going) (ih a' s k)
       go (panics p) s (off f) ih = rw (ap is_done f.outcome) (off f)
 
@@ -175,8 +175,8 @@ module _ {X P : Type 0} (T : Protocol P) (inj : X → Proto) (view : X → P) (s
     nacked : (x : X) {n : Nacked} → n ≡ record { outcome = Done; proto = inj x } → SameNacks (returns (view x)) n
     refused : {p : Place} {n : Nacked} → RefusedAt p n.outcome → SameNacks (panics p) n
 
-  pub nacks-same : (rej : Bool) (x : X) (w : Walk) → SameNacks (over (nackOption T rej) (view x) w >>= unwrap optionsCut) (nacks_of rej (inj x) w)
+  pub nacks_same : (rej : Bool) (x : X) (w : Walk) → SameNacks (over (nack_option T rej) (view x) w >>= unwrap options_cut) (nacks_of rej (inj x) w)
   unfolding nacks_of
-  nacks-same rej x done = nacked x refl
-  nacks-same rej x (cut at) = refused (refused_at (OptionCut at) refl)
-  nacks-same rej x (opt c d w) = rw (stands.nack_theirs x c d rej, stands.nack_ours x c d rej) (nacks-same rej (stands.nacked x c d rej) w)
+  nacks_same rej x done = nacked x refl
+  nacks_same rej x (cut at) = refused (refused_at (OptionCut at) refl)
+  nacks_same rej x (opt c d w) = rw (stands.nack_theirs x c d rej, stands.nack_ours x c d rej) (nacks_same rej (stands.nacked x c d rej) w)

@@ -27,7 +27,7 @@ use Rattle.original.specs.Panics.{number_at, SamePoll, same, refuses, opens, unf
 use Rattle.original.proofs.Crc.{same-crc16}
 use Rattle.original.proofs.Writer.{same_start, same-append, same-finish}
 use Rattle.original.proofs.Reader.{complete_is, same-consume, same-receive}
-use Rattle.original.proofs.Calls.{new-fits, same_open, same-status, same_consume_link}
+use Rattle.original.proofs.Calls.{new_fits, same_open, same-status, same_consume_link}
 use Rattle.original.proofs.Link.{same-poll}
 use Rattle.original.proofs.Send.{same-send}
 
@@ -68,9 +68,9 @@ same_framing =
     record {
       check_value = same-crc16;
       new_writer = λ m buf. refl;
-      start-frame = same_start;
+      start_frame = same_start;
       append_bytes = same-append;
-      finish-frame = same-finish;
+      finish_frame = same-finish;
       new_reader = refl;
       consume_bytes = same-consume;
       receive_packet = same-receive;
@@ -79,7 +79,7 @@ same_framing =
 pub same_link : SameLink
 same_link =
     record {
-      new = λ name password k _ crate h c. new-fits name password k c crate h;
+      new = λ name password k _ crate h c. new_fits name password k c crate h;
       «open» = same_open;
       status = same-status;
       consume = same_consume_link;

@@ -48,9 +48,9 @@ module _ (l : PPPoS) (pkt tx : List ℕ) (bytes : Bytes pkt) where
   abbrev m : ℕ
   m = remote_map l
 
-  send-runs : Ends (frame_units m (ip_frame pkt)) tx 0 (send (view_link l) pkt tx)
+  send_runs : Ends (frame_units m (ip_frame pkt)) tx 0 (send (view_link l) pkt tx)
   unfolding send be_bytes fcs
-  send-runs =
+  send_runs =
       let head : List ℕ = 0x00 ∷ 0x21 ∷ [] in
       let c = fcs 0x3DE3 head in
       let last : FrameWriter → WriteResult = λ w. try (append w pkt) (λ w. finish w) in
@@ -67,6 +67,6 @@ module _ (l : PPPoS) (pkt tx : List ℕ) (bytes : Bytes pkt) where
   pub same-send : {o : Outcome} {n : ℕ} {tx' : List ℕ} → Sends l pkt tx o n tx' → SameSend (send (view_link l) pkt tx) o n tx'
   same-send c =
       let r = send (view_link l) pkt tx in
-      let done = frame-done m (ip_frame pkt) send-runs in
-      let e = encodes m (ip_frame pkt) send-runs {o = cond r.is_ok Done (Refused BufferFull)} {k = cond r.is_ok r.writer.len 0} (cond_ap outcome_number r.is_ok Done (Refused BufferFull)) refl in
+      let done = frame-done m (ip_frame pkt) send_runs in
+      let e = encodes m (ip_frame pkt) send_runs {o = cond r.is_ok Done (Refused BufferFull)} {k = cond r.is_ok r.writer.len 0} (cond_ap outcome_number r.is_ok Done (Refused BufferFull)) refl in
       record { outcome = rw done c.outcome; count = c.lays.count ∙ sym e.lays.count; bytes = c.lays.bytes ∙ sym e.lays.bytes }

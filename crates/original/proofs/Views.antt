@@ -14,11 +14,11 @@ use Rattle.negotiation.proofs.CredentialLaws.{sum_fits}
 use Rattle.negotiation.specs.declared.states.State as fsm
 use Rattle.options.specs.declared.lcp.AuthType as auth
 use Rattle.options.specs.declared.ipv4cp.IpOption as ip
-use Rattle.negotiation.specs.declared.pap.PapState as papState
+use Rattle.negotiation.specs.declared.pap.PapState as pap_state
 use Rattle.negotiation.specs.declared.credentials.Credentials.{Credentials}
 use Rattle.phases.specs.declared.ppp.Phase as phase
-use Rattle.phases.specs.declared.ppp.LcpFsm as lcpFsm
-use Rattle.phases.specs.declared.ppp.Ipv4cpFsm as ipv4cpFsm
+use Rattle.phases.specs.declared.ppp.LcpFsm as lcp_fsm
+use Rattle.phases.specs.declared.ppp.Ipv4cpFsm as ipv4cp_fsm
 use Rattle.link.specs.declared.pppos.PPPoS.{PPPoS}
 use Rattle.original.specs.Framing as framing
 use Rattle.original.specs.Fsm as automaton
@@ -65,15 +65,15 @@ auth_back_lem : (x : auth.AuthType) → auth_back (view_auth x) ≡ x
 auth_back_lem auth.TheVariants.None = refl
 auth_back_lem auth.TheVariants.Pap = refl
 
-abbrev pap_back : protocols.PapState → papState.PapState
-pap_back protocols.PapClosed = papState.TheVariants.Closed
-pap_back protocols.PapReqSent = papState.TheVariants.ReqSent
-pap_back protocols.PapOpened = papState.TheVariants.Opened
+abbrev pap_back : protocols.PapState → pap_state.PapState
+pap_back protocols.PapClosed = pap_state.TheVariants.Closed
+pap_back protocols.PapReqSent = pap_state.TheVariants.ReqSent
+pap_back protocols.PapOpened = pap_state.TheVariants.Opened
 
-pap_back_lem : (x : papState.PapState) → pap_back (view_pap_state x) ≡ x
-pap_back_lem papState.TheVariants.Closed = refl
-pap_back_lem papState.TheVariants.ReqSent = refl
-pap_back_lem papState.TheVariants.Opened = refl
+pap_back_lem : (x : pap_state.PapState) → pap_back (view_pap_state x) ≡ x
+pap_back_lem pap_state.TheVariants.Closed = refl
+pap_back_lem pap_state.TheVariants.ReqSent = refl
+pap_back_lem pap_state.TheVariants.Opened = refl
 
 abbrev phase_back : ppp.Phase → phase.Phase
 phase_back ppp.Dead = phase.TheVariants.Dead
@@ -97,7 +97,7 @@ reader_back r = record { state = reading_back r.state; escape = r.escape; len = 
 reader_back_lem : (x : reader.FrameReader) → x.reading ≡ Crate → reader_back (view_reader x) ≡ x
 reader_back_lem x e = rw (reading_back_lem x.state, ← e) refl
 
-abbrev lcp_back : automaton.OptionFsm protocols.Lcp → lcpFsm.LcpFsm
+abbrev lcp_back : automaton.OptionFsm protocols.Lcp → lcp_fsm.LcpFsm
 lcp_back f =
     record {
       id = f.id;
@@ -105,13 +105,13 @@ lcp_back f =
       proto = record { auth = auth_back f.proto.auth; asyncmap_remote = f.proto.asyncmap_remote; asyncmap = f.proto.asyncmap; asyncmap_rej = f.proto.asyncmap_rej };
     }
 
-lcp_back_lem : (x : lcpFsm.LcpFsm) → lcp_back (view_lcp_fsm x) ≡ x
+lcp_back_lem : (x : lcp_fsm.LcpFsm) → lcp_back (view_lcp_fsm x) ≡ x
 lcp_back_lem x = rw (state_back_lem x.state, auth_back_lem x.proto.auth) refl
 
 abbrev ip_back : protocols.IpOption → ip.IpOption
 ip_back o = record { address = o.address; is_rejected = o.is_rejected }
 
-abbrev ipv4cp_back : automaton.OptionFsm protocols.Ipv4cp → ipv4cpFsm.Ipv4cpFsm
+abbrev ipv4cp_back : automaton.OptionFsm protocols.Ipv4cp → ipv4cp_fsm.Ipv4cpFsm
 ipv4cp_back f =
     record {
       id = f.id;
@@ -119,7 +119,7 @@ ipv4cp_back f =
       proto = record { peer_address = f.proto.peer_address; address = ip_back f.proto.address; dns_server_1 = ip_back f.proto.dns_server1; dns_server_2 = ip_back f.proto.dns_server2 };
     }
 
-ipv4cp_back_lem : (x : ipv4cpFsm.Ipv4cpFsm) → ipv4cp_back (view_ipv4cp_fsm x) ≡ x
+ipv4cp_back_lem : (x : ipv4cp_fsm.Ipv4cpFsm) → ipv4cp_back (view_ipv4cp_fsm x) ≡ x
 ipv4cp_back_lem x = rw (state_back_lem x.state) refl
 
 -- ---- credentials

@@ -28,11 +28,11 @@ use Rattle.original.proofs.Crc.{same-crc16}
 -- `map & (1 << b)` has the one bit
 masked : (m b : ℕ) → bit_and m (2 ^ b) ≡ m / 2 ^ b % 2 * 2 ^ b
 masked m b =
-    let e : 2 ^ (1 + b) - 2 ^ b ≡ 2 ^ b = rw (one-suc b, pow-suc 2 b) (omega arith) in
+    let e : 2 ^ (1 + b) - 2 ^ b ≡ 2 ^ b = rw (one_suc b, pow-suc 2 b) (omega arith) in
     rw e at (and_high m 1 b)
   where
-    one-suc : (n : ℕ) → 1 + n ≡ suc n
-    one-suc n = omega arith
+    one_suc : (n : ℕ) → 1 + n ≡ suc n
+    one_suc n = omega arith
 
 bit_test : (m b : ℕ) → not (eqb (bit_and m (2 ^ b)) 0) ≡ eqb (m / 2 ^ b % 2) 1
 bit_test m b =

@@ -2,7 +2,7 @@
 use Rattle.std.specs.Prelude.{Bool, true, false, cond, not, ◌||◌, List, [], ◌∷◌, ℕ, ◌+◌, ◌-◌, ◌/◌, ◌%◌, ◌^◌, ltb, leb, eqb, length, get_or, take, set}
 use Rattle.std.specs.Int.Bits.{bit_and, bit_xor}
 use Rattle.std.proofs.lemmas.List.Edits.{sets}
-use Rattle.original.specs.Run.{Run, returns, panics, readerLen, readerSlice, ◌>>=◌}
+use Rattle.original.specs.Run.{Run, returns, panics, reader_len, reader_slice, ◌>>=◌}
 use Rattle.original.specs.Crc.{crc16}
 
 -- ---- frame_writer.rs
@@ -92,7 +92,7 @@ is_complete = elim [ Start ↦ false | Address ↦ false | Data ↦ false | Comp
 unfoldable pub receive : FrameReader → Run Fetch
 receive r =
     cond (is_complete r.state)
-    (cond (ltb r.len 2) (panics readerLen) (returns (range 1 (r.len - 2) (record { state = Address; escape = r.escape; len = 0 }))))
+    (cond (ltb r.len 2) (panics reader_len) (returns (range 1 (r.len - 2) (record { state = Address; escape = r.escape; len = 0 }))))
     (returns (nothing r))
 
 -- a reader beside the lent buffer
@@ -110,9 +110,9 @@ fed_to s r buf = returns (record { reader = with_state r s; buf = buf })
 abbrev pub end_of : FrameReader → List ℕ → Run Fed
 end_of r buf =
     cond (ltb r.len 3) (fed_to Address r buf)
-    (cond (eqb (length buf) 0) (panics readerSlice)
+    (cond (eqb (length buf) 0) (panics reader_slice)
     (cond (not (eqb (get_or buf 0 0) 0x03)) (fed_to Address r buf)
-    (cond (ltb (length buf) r.len) (panics readerSlice)
+    (cond (ltb (length buf) r.len) (panics reader_slice)
     (fed_to (cond (eqb (crc16 0x00FF (take r.len buf)) 0xF0B8) Complete Address) r buf))))
 
 abbrev pub usize_max : ℕ

@@ -20,9 +20,9 @@ use Rattle.link.specs.declared.refusal.Outcome.TheVariants.{Refused}
 use Rattle.link.specs.declared.choices.Choices.{Choices}
 use Rattle.link.specs.declared.pppos.PPPoS.{PPPoS}
 use Rattle.link.specs.declared.pppos.PPPoSAction.{PPPoSAction}
-use Rattle.original.specs.Run.{Run, returns, panics, Place, readerLen, readerSlice, option_long, fsmOpen, echoCode, notClosed, requestId, packetShort, optionsCut, requestMany, ownMany, nameLong, passwordLong, papOpen, papSlice, receivedSlice, receivedIp, pollOrder, pollRange, pollSlice, reply_long, replyFull}
+use Rattle.original.specs.Run.{Run, returns, panics, Place, reader_len, reader_slice, option_long, fsm_open, echo_code, not_closed, request_id, packet_short, options_cut, request_many, own_many, name_long, password_long, pap_open, pap_slice, received_slice, received_ip, poll_order, poll_range, poll_slice, reply_long, reply_full}
 use Rattle.original.specs.Framing.{FrameWriter, range, receive}
-use Rattle.original.specs.Fsm.{closeFsm}
+use Rattle.original.specs.Fsm.{close_fsm}
 use Rattle.original.specs.Protocols.{ipv4cp_protocol, close_pap}
 use Rattle.original.specs.Ppp.{Ppp, with_pap, with_ipv4cp}
 use Rattle.original.specs.Pppos as theirs
@@ -33,28 +33,28 @@ use Rattle.original.specs.History.{Call, polls, OurAnswer, acted, Called, Histor
 
 -- the number that the table names for a place; 0 where no call comes to it, or where ours goes on
 abbrev pub number_at : Place → ℕ
-number_at readerLen = 5
-number_at readerSlice = 3
+number_at reader_len = 5
+number_at reader_slice = 3
 number_at option_long = 8
-number_at fsmOpen = 0
-number_at echoCode = 12
-number_at notClosed = 0
-number_at requestId = 11
-number_at packetShort = 11
-number_at optionsCut = 7
-number_at requestMany = 9
-number_at ownMany = 0
-number_at nameLong = 4
-number_at passwordLong = 4
-number_at papOpen = 0
-number_at papSlice = 13
-number_at receivedSlice = 0
-number_at receivedIp = 0
-number_at pollOrder = 5
-number_at pollRange = 3
-number_at pollSlice = 5
+number_at fsm_open = 0
+number_at echo_code = 12
+number_at not_closed = 0
+number_at request_id = 11
+number_at packet_short = 11
+number_at options_cut = 7
+number_at request_many = 9
+number_at own_many = 0
+number_at name_long = 4
+number_at password_long = 4
+number_at pap_open = 0
+number_at pap_slice = 13
+number_at received_slice = 0
+number_at received_ip = 0
+number_at poll_order = 5
+number_at poll_range = 3
+number_at poll_slice = 5
 number_at reply_long = 10
-number_at replyFull = 1
+number_at reply_full = 1
 
 -- an outcome that is the table's refusal for a place
 pub record RefusedAt (place : Place) (o : negotiation.Outcome) : Type 0 where
@@ -64,11 +64,11 @@ pub record RefusedAt (place : Place) (o : negotiation.Outcome) : Type 0 where
 
 -- the two `assert!`s of open, where ours opens as if Closed; the record on which the original would go on so
 pub data Asserts : Place → Type 0 where
-  ipv4cp_opened : Asserts fsmOpen
-  pap_opened : Asserts papOpen
+  ipv4cp_opened : Asserts fsm_open
+  pap_opened : Asserts pap_open
 
 abbrev pub as_if_closed : {p : Place} → Asserts p → Ppp → Ppp
-as_if_closed ipv4cp_opened p = with_ipv4cp p (closeFsm ipv4cp_protocol p.ipv4cp)
+as_if_closed ipv4cp_opened p = with_ipv4cp p (close_fsm ipv4cp_protocol p.ipv4cp)
 as_if_closed pap_opened p = with_pap p (close_pap p.pap)
 
 -- ---- a poll
@@ -76,7 +76,7 @@ as_if_closed pap_opened p = with_pap p (close_pap p.pap)
 -- a panic at a place, beside what our poll does there
 pub data Refuses (l : PPPoS) (tx rx : List ℕ) : Place → Poll → Type 0 where
   -- a frame does not fit: refusal 1, and everything stays
-  full : {p : Poll} → link.number_of FramesFull ≡ number_at replyFull → p ≡ declined FramesFull l tx rx → Refuses l tx rx replyFull p
+  full : {p : Poll} → link.number_of FramesFull ≡ number_at reply_full → p ≡ declined FramesFull l tx rx → Refuses l tx rx reply_full p
   -- any other panic of a received packet: the table's refusal, and the frame is dropped
   dropped : {place : Place} {p : Poll} (why : Refusal) → RefusedAt place (negotiation.TheVariants.Refused why)
       → p ≡ declined (Negotiation why) (link_of (fetched l.frame_reader) l.ppp) tx rx → Refuses l tx rx place p
@@ -91,7 +91,7 @@ pub data SamePoll (l : PPPoS) (tx rx : List ℕ) : Run theirs.Poll → Poll → 
 
 -- a complete frame with under three bytes kept: `len - 2` of under two, or the range 1..0
 abbrev pub unframed_at : ℕ → Place
-unframed_at len = cond (ltb len 2) readerLen pollOrder
+unframed_at len = cond (ltb len 2) reader_len poll_order
 
 -- ---- a run of calls
 
@@ -115,18 +115,18 @@ pub record AtPanics : Type 0 where
       × (theirs.poll (view_link l) tx rx ≡ panics (unframed_at l.frame_reader.len)) × (number_at (unframed_at l.frame_reader.len) ≡ 5)
   -- the same of the reader alone; of two bytes the original's gives the range 1..0
   pub unfetched : {r r' : reader.FrameReader} {g : Got} → Receives r g r' → is_complete r.state ≡ true → r.len < 3
-      → (got_number g ≡ number_at readerLen) × (receive (view_reader r) ≡ cond (ltb r.len 2) (panics readerLen) (returns (range 1 0 (view_reader r'))))
+      → (got_number g ≡ number_at reader_len) × (receive (view_reader r) ≡ cond (ltb r.len 2) (panics reader_len) (returns (range 1 0 (view_reader r'))))
   -- refusal 3, and everything left, for a buffer under the kept length; the original panics where the packet itself ends behind the buffer
   pub short_poll : (l : PPPoS) (tx rx : List ℕ) → length rx < l.frame_reader.len
       → (poll_link l tx rx ≡ declined (Framing BufferShort) l tx rx)
-      × (is_complete l.frame_reader.state ≡ true → 3 ≤ l.frame_reader.len → length rx + 2 < l.frame_reader.len → (theirs.poll (view_link l) tx rx ≡ panics pollRange) × (number_at pollRange ≡ 3))
+      × (is_complete l.frame_reader.state ≡ true → 3 ≤ l.frame_reader.len → length rx + 2 < l.frame_reader.len → (theirs.poll (view_link l) tx rx ≡ panics poll_range) × (number_at poll_range ≡ 3))
   -- the same of a consume; where the original panics, it is at the check of a frame's end
   pub short_consume : (l : PPPoS) (rx bs : List ℕ) → length rx < l.frame_reader.len → {o : Outcome} {n : ℕ} {l' : PPPoS} {rx' : List ℕ} → Consumes l rx bs o n l' rx'
       → (o ≡ Refused (Framing BufferShort)) × (n ≡ 0) × (l' ≡ l) × (rx' ≡ rx)
-      × ((place : Place) → theirs.consume_link (view_link l) bs rx ≡ panics place → (place ≡ readerSlice) × (link.outcome_number o ≡ number_at place))
+      × ((place : Place) → theirs.consume_link (view_link l) bs rx ≡ panics place → (place ≡ reader_slice) × (link.outcome_number o ≡ number_at place))
   -- there it does panic at a frame's end, with three bytes or more kept, if the buffer is empty or begins with 03
   pub short_end : (l : PPPoS) (rx bs : List ℕ) → length rx < l.frame_reader.len → 3 ≤ l.frame_reader.len → l.frame_reader.state ≡ Data → get_or rx 0 0x03 ≡ 0x03
-      → theirs.consume_link (view_link l) (0x7E ∷ bs) rx ≡ panics readerSlice
+      → theirs.consume_link (view_link l) (0x7E ∷ bs) rx ≡ panics reader_slice
   -- the first panic of a run of calls is a poll's, and at no assert
   pub first : {name password : List ℕ} {cs : List Call} {xs : List OurAnswer} {l : PPPoS} → History name password cs xs l → {r : Ran} → run_of name password cs ≡ returns r
       → {c : Call} {a : OurAnswer} {l' : PPPoS} → Called l c a l' → {place : Place} → call_of r.link c ≡ panics place → Stopped l place c a l'

@@ -1,9 +1,9 @@
 -- ppp/mod.rs.
 use Rattle.std.specs.Prelude.{Bool, true, false, cond, not, ◌&&◌, List, [], ◌∷◌, ◌++◌, ℕ, ltb, length, take}
 use Rattle.laws.specs.Be.{be_of}
-use Rattle.original.specs.Run.{Run, returns, panics, receivedSlice, receivedIp, ◌>>=◌, Result, ok, err}
+use Rattle.original.specs.Run.{Run, returns, panics, received_slice, received_ip, ◌>>=◌, Result, ok, err}
 use Rattle.original.specs.Wire.{ProtocolType, Unknown, LCP, PAP, IPv4, IPv4CP, protocol_from, Packet}
-use Rattle.original.specs.Fsm.{is_closed, is_opened, OptionFsm, newFsm, handle, openFsm, closeFsm, sendProtocolReject}
+use Rattle.original.specs.Fsm.{is_closed, is_opened, OptionFsm, new_fsm, handle, open_fsm, close_fsm, send_protocol_reject}
 use Rattle.original.specs.Protocols.{AuthType, AuthNone, AuthPap, Lcp, new_lcp, lcp_protocol, Ipv4cp, new_ipv4cp, ipv4cp_protocol, Ipv4Status, ipv4_status, is_pap_closed, is_pap_opened, Pap, new_pap, open_pap, close_pap, handle_pap}
 
 pub data Phase : Type 0 where
@@ -20,7 +20,7 @@ pub record Ppp : Type 0 where
 abbrev pub new_ppp : List ℕ → List ℕ → Run Ppp
 new_ppp username password = do
   pap ← new_pap username password
-  returns (record { phase = Dead; opening = false; lcp = newFsm lcp_protocol new_lcp; pap = pap; ipv4cp = newFsm ipv4cp_protocol new_ipv4cp })
+  returns (record { phase = Dead; opening = false; lcp = new_fsm lcp_protocol new_lcp; pap = pap; ipv4cp = new_fsm ipv4cp_protocol new_ipv4cp })
 
 -- Option<Ipv4Status>
 pub data Ipv4 : Type 0 where
@@ -68,15 +68,15 @@ pub record Received : Type 0 where
 abbrev pub received_by : ProtocolType → Ppp → List ℕ → Run Received
 received_by LCP p pkt = handle lcp_protocol p.lcp pkt >>= λ h. returns (record { ppp = with_lcp p h.fsm; pkt = h.pkt; tx = h.tx })
 received_by PAP p pkt = handle_pap p.pap pkt >>= λ h. returns (record { ppp = with_pap p h.pap; pkt = pkt; tx = h.tx })
-received_by IPv4 p pkt = panics receivedIp
+received_by IPv4 p pkt = panics received_ip
 received_by IPv4CP p pkt = handle ipv4cp_protocol p.ipv4cp pkt >>= λ h. returns (record { ppp = with_ipv4cp p h.fsm; pkt = h.pkt; tx = h.tx })
 received_by Unknown p pkt =
-    let r = sendProtocolReject lcp_protocol p.lcp pkt in
+    let r = send_protocol_reject lcp_protocol p.lcp pkt in
     returns (record { ppp = with_lcp p r.fsm; pkt = pkt; tx = r.packet ∷ [] })
 
 -- PPP::received
 unfoldable pub received : Ppp → List ℕ → Run Received
-received p pkt = cond (ltb (length pkt) 2) (panics receivedSlice) (received_by (protocol_from (be_of (take 2 pkt))) p pkt)
+received p pkt = cond (ltb (length pkt) 2) (panics received_slice) (received_by (protocol_from (be_of (take 2 pkt))) p pkt)
 
 -- ---- poll
 
@@ -91,11 +91,11 @@ polled p tx = returns (record { ppp = p; tx = tx })
 abbrev pub open_lcp : Ppp → Run Polled
 open_lcp p =
     cond (is_closed p.lcp.state)
-    (openFsm lcp_protocol p.lcp >>= λ s. polled (with_opening (with_lcp p s.fsm) false) (s.packet ∷ []))
+    (open_fsm lcp_protocol p.lcp >>= λ s. polled (with_opening (with_lcp p s.fsm) false) (s.packet ∷ []))
     (polled p [])
 
 abbrev pub open_ipv4cp : Ppp → List Packet → Run Polled
-open_ipv4cp p tx = openFsm ipv4cp_protocol p.ipv4cp >>= λ s. polled (with_phase (with_ipv4cp p s.fsm) Network) (tx ++ (s.packet ∷ []))
+open_ipv4cp p tx = open_fsm ipv4cp_protocol p.ipv4cp >>= λ s. polled (with_phase (with_ipv4cp p s.fsm) Network) (tx ++ (s.packet ∷ []))
 
 -- `match self.lcp.proto().auth`
 abbrev pub auth_by : AuthType → Ppp → List Packet → Run Polled
@@ -106,7 +106,7 @@ abbrev pub shut_pap : Ppp → Ppp
 shut_pap p = cond (not (is_pap_closed p.pap.state)) (with_pap p (close_pap p.pap)) p
 
 abbrev pub shut_ipv4cp : Ppp → Ppp
-shut_ipv4cp p = cond (not (is_closed p.ipv4cp.state)) (with_ipv4cp p (closeFsm ipv4cp_protocol p.ipv4cp)) p
+shut_ipv4cp p = cond (not (is_closed p.ipv4cp.state)) (with_ipv4cp p (close_fsm ipv4cp_protocol p.ipv4cp)) p
 
 -- `if self.lcp.state() == State::Opened { .. } else { .. }`
 abbrev pub establish : Polled → Run Polled

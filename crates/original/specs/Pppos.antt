@@ -1,7 +1,7 @@
 -- pppos/mod.rs.
 use Rattle.std.specs.Prelude.{cond, List, [], ◌∷◌, ◌++◌, ℕ, ◌+◌, ◌-◌, ltb, eqb, length, take, drop}
 use Rattle.laws.specs.Be.{be_of, be_bytes}
-use Rattle.original.specs.Run.{Run, returns, panics, pollOrder, pollRange, pollSlice, reply_long, replyFull, ◌>>=◌, Result, ok, err}
+use Rattle.original.specs.Run.{Run, returns, panics, poll_order, poll_range, poll_slice, reply_long, reply_full, ◌>>=◌, Result, ok, err}
 use Rattle.original.specs.Framing.{FrameWriter, new_writer, new_with_asyncmap, WriteResult, try, start, append, finish, FrameReader, new_reader, Fetch, nothing, range, receive, consume}
 use Rattle.original.specs.Wire.{ProtocolType, Unknown, LCP, PAP, IPv4, IPv4CP, protocol_from, Packet, packet_len, emit}
 use Rattle.original.specs.Ppp.{Ppp, new_ppp, open_in, Status, status, received, poll_ppp}
@@ -38,7 +38,7 @@ open_link l = open_result l (open_in l.ppp.phase l.ppp)
 
 -- `.unwrap()` of a writer's call
 abbrev pub unwrapped : WriteResult → Run FrameWriter
-unwrapped r = cond r.is_ok (returns r.writer) (panics replyFull)
+unwrapped r = cond r.is_ok (returns r.writer) (panics reply_full)
 
 -- the closure tx
 unfoldable pub transmit : FrameWriter → Packet → Run FrameWriter
@@ -86,14 +86,14 @@ poll_by PAP l w from to rx pkt = poll_received l w from to rx pkt
 poll_by IPv4CP l w from to rx pkt = poll_received l w from to rx pkt
 
 abbrev pub poll_packet : PPPoS → FrameWriter → ℕ → ℕ → List ℕ → List ℕ → Run Input
-poll_packet l w from to rx pkt = cond (ltb (length pkt) 2) (panics pollSlice) (poll_by (protocol_from (be_of (take 2 pkt))) l w from to rx pkt)
+poll_packet l w from to rx pkt = cond (ltb (length pkt) 2) (panics poll_slice) (poll_by (protocol_from (be_of (take 2 pkt))) l w from to rx pkt)
 
 -- `if let Some(range) = self.frame_reader.receive()`
 abbrev pub poll_fetch : PPPoS → FrameWriter → List ℕ → Fetch → Run Input
 poll_fetch l w rx (nothing r) = returns (goes_on (record { frame_reader = r; ppp = l.ppp }) w rx)
 poll_fetch l w rx (range from to r) =
-    cond (ltb to from) (panics pollOrder)
-    (cond (ltb (length rx) to) (panics pollRange)
+    cond (ltb to from) (panics poll_order)
+    (cond (ltb (length rx) to) (panics poll_range)
     (poll_packet (record { frame_reader = r; ppp = l.ppp }) w from to rx (take (to - from) (drop from rx))))
 
 unfoldable pub handle_input : PPPoS → List ℕ → List ℕ → Run Input

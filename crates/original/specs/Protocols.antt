@@ -2,7 +2,7 @@
 use Rattle.std.specs.Prelude.{Bool, true, false, cond, not, ◌&&◌, ◌||◌, List, [], ◌∷◌, ◌++◌, ℕ, ◌+◌, ◌%◌, ltb, eqb, length, get_or, take, drop}
 use Rattle.laws.specs.Be.{be_of, be_bytes}
 use Rattle.laws.specs.Same.{same}
-use Rattle.original.specs.Run.{Run, returns, panics, nameLong, passwordLong, papOpen, papSlice}
+use Rattle.original.specs.Run.{Run, returns, panics, name_long, password_long, pap_open, pap_slice}
 use Rattle.original.specs.Wire.{LCP, PAP, IPv4CP, Credentials, PPP, Packet, code_from}
 use Rattle.original.specs.Fsm.{Verdict, Ack, Nack, Rej, Protocol}
 
@@ -40,9 +40,9 @@ lcp_own p = cond (not p.asyncmap_rej) ((2, be_bytes 4 p.asyncmap) ∷ []) []
 
 -- LCP::own_option_nacked
 abbrev pub lcp_nacked : Lcp → ℕ → List ℕ → Bool → Lcp
-lcp_nacked p c d isRej =
+lcp_nacked p c d is_rej =
     cond (eqb c 2)
-    (cond (not isRej && eqb (length d) 4)
+    (cond (not is_rej && eqb (length d) 4)
     (record { auth = p.auth; asyncmap_remote = p.asyncmap_remote; asyncmap = be_of d; asyncmap_rej = p.asyncmap_rej })
     (record { auth = p.auth; asyncmap_remote = p.asyncmap_remote; asyncmap = p.asyncmap; asyncmap_rej = true }))
     p
@@ -69,8 +69,8 @@ get_ip o = cond (o.is_rejected || eqb o.address 0) NoAddr (SomeAddr o.address)
 
 -- IpOption::nacked
 abbrev pub ip_nacked : IpOption → List ℕ → Bool → IpOption
-ip_nacked o d isRej =
-    cond isRej (record { address = o.address; is_rejected = true })
+ip_nacked o d is_rej =
+    cond is_rej (record { address = o.address; is_rejected = true })
     (cond (eqb (length d) 4) (record { address = be_of d; is_rejected = o.is_rejected }) (record { address = o.address; is_rejected = true }))
 
 pub record Ipv4cp : Type 0 where
@@ -119,10 +119,10 @@ ipv4cp_own p = own_ip 3 p.address ++ (own_ip 129 p.dns_server1 ++ own_ip 131 p.d
 
 -- IPv4CP::own_option_nacked
 abbrev pub ipv4cp_nacked : Ipv4cp → ℕ → List ℕ → Bool → Ipv4cp
-ipv4cp_nacked p c d isRej =
-    cond (eqb c 3) (record { peer_address = p.peer_address; address = ip_nacked p.address d isRej; dns_server1 = p.dns_server1; dns_server2 = p.dns_server2 })
-    (cond (eqb c 129) (record { peer_address = p.peer_address; address = p.address; dns_server1 = ip_nacked p.dns_server1 d isRej; dns_server2 = p.dns_server2 })
-    (cond (eqb c 131) (record { peer_address = p.peer_address; address = p.address; dns_server1 = p.dns_server1; dns_server2 = ip_nacked p.dns_server2 d isRej })
+ipv4cp_nacked p c d is_rej =
+    cond (eqb c 3) (record { peer_address = p.peer_address; address = ip_nacked p.address d is_rej; dns_server1 = p.dns_server1; dns_server2 = p.dns_server2 })
+    (cond (eqb c 129) (record { peer_address = p.peer_address; address = p.address; dns_server1 = ip_nacked p.dns_server1 d is_rej; dns_server2 = p.dns_server2 })
+    (cond (eqb c 131) (record { peer_address = p.peer_address; address = p.address; dns_server1 = p.dns_server1; dns_server2 = ip_nacked p.dns_server2 d is_rej })
     p))
 
 -- impl Protocol for IPv4CP
@@ -153,8 +153,8 @@ pub record Pap : Type 0 where
 -- PAP::new
 abbrev pub new_pap : List ℕ → List ℕ → Run Pap
 new_pap username password =
-    cond (ltb 255 (length username)) (panics nameLong)
-    (cond (ltb 255 (length password)) (panics passwordLong)
+    cond (ltb 255 (length username)) (panics name_long)
+    (cond (ltb 255 (length password)) (panics password_long)
     (returns (record { state = PapClosed; id = 1; username = username; password = password })))
 
 abbrev pub with_pap_state : Pap → PapState → Pap
@@ -176,7 +176,7 @@ send_pap_request p =
 
 -- PAP::open
 unfoldable pub open_pap : Pap → Run PapHandled
-open_pap p = cond (is_pap_closed p.state) (returns (send_pap_request (with_pap_state p PapReqSent))) (panics papOpen)
+open_pap p = cond (is_pap_closed p.state) (returns (send_pap_request (with_pap_state p PapReqSent))) (panics pap_open)
 
 -- PAP::close
 abbrev pub close_pap : Pap → Pap
@@ -194,5 +194,5 @@ handle_pap p pkt =
     let len = be_of (take 2 (drop 4 pkt)) in
     cond (ltb (length pkt) 6) (returns (record { pap = p; tx = [] }))
     (cond (ltb (length pkt) len) (returns (record { pap = p; tx = [] }))
-    (cond (ltb (length pkt) (len + 2)) (panics papSlice)
+    (cond (ltb (length pkt) (len + 2)) (panics pap_slice)
     (returns (pap_act p (code_from (get_or pkt 2 0))))))

@@ -1,21 +1,21 @@
 -- What a call of a Rust function comes to: it returns, or it panics at a place of its text.
 pub data Place : Type 0 where
   -- frame_reader.rs: `len - 2`; `buf[0]` and `buf[..self.len]`
-  readerLen readerSlice : Place
+  reader_len reader_slice : Place
   -- wire.rs: `unwrap!(Vec::from_slice(data))`
   option_long : Place
   -- option_fsm.rs, handle and open: `assert!(self.state == State::Closed)`; `pkt[2] = ..`; `unreachable!()`
-  fsmOpen echoCode notClosed : Place
+  fsm_open echo_code not_closed : Place
   -- option_fsm.rs, own and received options: `pkt[3]`; `panic!("too short")`; `parse_options(..).unwrap()`; `panic!(".. too many options")`
-  requestId packetShort optionsCut requestMany ownMany : Place
+  request_id packet_short options_cut request_many own_many : Place
   -- pap.rs: the two asserts of new; the one of open; `&mut pkt[..len + 2]`
-  nameLong passwordLong papOpen papSlice : Place
+  name_long password_long pap_open pap_slice : Place
   -- ppp/mod.rs, received: `pkt[0..2]`; `todo!()`
-  receivedSlice receivedIp : Place
+  received_slice received_ip : Place
   -- pppos/mod.rs, poll: `&mut rx_buf[range]`, of a range that runs backwards, and of one that ends behind the buffer
-  pollOrder pollRange : Place
+  poll_order poll_range : Place
   -- pppos/mod.rs, poll: `pkt[0..2]`; `assert!(len <= buf.len())`; `w.start().unwrap()` and the two behind it
-  pollSlice reply_long replyFull : Place
+  poll_slice reply_long reply_full : Place
 
 pub data Run (A : Type 0) : Type 0 where
   returns : A → Run A

@@ -32,11 +32,11 @@ fetch_of got.Nothing r = nothing r
 pub record SameFraming : Type 0 where
   pub check_value : (seed : ℕ) (bs : List ℕ) → Bytes bs → crc16 seed bs ≡ fcs seed bs
   pub new_writer : (m : ℕ) (buf : List ℕ) → view_writer (fresh_writer m) buf ≡ new_with_asyncmap buf m
-  pub start-frame : (w : writer.FrameWriter) (buf : List ℕ) → w.len ≤ length buf → {o : framed.Outcome} {w' : writer.FrameWriter} {buf' : List ℕ}
+  pub start_frame : (w : writer.FrameWriter) (buf : List ℕ) → w.len ≤ length buf → {o : framed.Outcome} {w' : writer.FrameWriter} {buf' : List ℕ}
       → Starts w buf o w' buf' → SameWrite (start (view_writer w buf)) o w' buf'
   pub append_bytes : (w : writer.FrameWriter) (buf : List ℕ) → w.len ≤ length buf → {o : framed.Outcome} {w' : writer.FrameWriter} {buf' : List ℕ} (bs : List ℕ) → Bytes bs
       → Appends bs w buf o w' buf' → SameWrite (append (view_writer w buf) bs) o w' buf'
-  pub finish-frame : (w : writer.FrameWriter) (buf : List ℕ) → w.len ≤ length buf → {o : framed.Outcome} {w' : writer.FrameWriter} {buf' : List ℕ}
+  pub finish_frame : (w : writer.FrameWriter) (buf : List ℕ) → w.len ≤ length buf → {o : framed.Outcome} {w' : writer.FrameWriter} {buf' : List ℕ}
       → Finishes w buf o w' buf' → SameWrite (finish (view_writer w buf)) o w' buf'
   pub new_reader : view_reader (fresh_reader Crate) ≡ new_reader
   pub consume_bytes : (r : reader.FrameReader) (buf bs : List ℕ) → r.reading ≡ Crate → r.len ≤ length buf → length buf < 2 ^ 64 → Bytes buf → Bytes bs

@@ -10,11 +10,11 @@ use Rattle.options.specs.declared.lcp.Lcp as lcp
 use Rattle.options.specs.declared.ipv4cp.IpOption as ip
 use Rattle.options.specs.declared.ipv4cp.Ipv4cp as ipv4cp
 use Rattle.options.specs.declared.ipv4cp.Shown as shown
-use Rattle.negotiation.specs.declared.pap.PapState as papState
+use Rattle.negotiation.specs.declared.pap.PapState as pap_state
 use Rattle.negotiation.specs.declared.auth.Auth as authentication
 use Rattle.phases.specs.declared.ppp.Phase as phase
-use Rattle.phases.specs.declared.ppp.LcpFsm as lcpFsm
-use Rattle.phases.specs.declared.ppp.Ipv4cpFsm as ipv4cpFsm
+use Rattle.phases.specs.declared.ppp.LcpFsm as lcp_fsm
+use Rattle.phases.specs.declared.ppp.Ipv4cpFsm as ipv4cp_fsm
 use Rattle.phases.specs.declared.ppp.Ppp as ppp
 use Rattle.phases.specs.declared.ppp.Ipv4Status as ipv4_status
 use Rattle.phases.specs.declared.ppp.Status as status
@@ -63,10 +63,10 @@ view_ip o = record { address = o.address; is_rejected = o.is_rejected }
 abbrev pub view_ipv4cp : ipv4cp.Ipv4cp → Ipv4cp
 view_ipv4cp p = record { peer_address = p.peer_address; address = view_ip p.address; dns_server1 = view_ip p.dns_server_1; dns_server2 = view_ip p.dns_server_2 }
 
-abbrev pub view_pap_state : papState.PapState → PapState
-view_pap_state papState.TheVariants.Closed = PapClosed
-view_pap_state papState.TheVariants.ReqSent = PapReqSent
-view_pap_state papState.TheVariants.Opened = PapOpened
+abbrev pub view_pap_state : pap_state.PapState → PapState
+view_pap_state pap_state.TheVariants.Closed = PapClosed
+view_pap_state pap_state.TheVariants.ReqSent = PapReqSent
+view_pap_state pap_state.TheVariants.Opened = PapOpened
 
 -- the credentials that the two lengths name
 abbrev pub view_pap : authentication.Auth → Pap
@@ -79,10 +79,10 @@ view_phase phase.TheVariants.Auth = Auth
 view_phase phase.TheVariants.Network = Network
 view_phase phase.TheVariants.Open = Open
 
-abbrev pub view_lcp_fsm : lcpFsm.LcpFsm → OptionFsm Lcp
+abbrev pub view_lcp_fsm : lcp_fsm.LcpFsm → OptionFsm Lcp
 view_lcp_fsm f = record { id = f.id; state = view_state f.state; proto = view_lcp f.proto }
 
-abbrev pub view_ipv4cp_fsm : ipv4cpFsm.Ipv4cpFsm → OptionFsm Ipv4cp
+abbrev pub view_ipv4cp_fsm : ipv4cp_fsm.Ipv4cpFsm → OptionFsm Ipv4cp
 view_ipv4cp_fsm f = record { id = f.id; state = view_state f.state; proto = view_ipv4cp f.proto }
 
 abbrev pub view_ppp : ppp.Ppp → Ppp

@@ -19,43 +19,43 @@ use Rattle.outbox.specs.declared.refusal.Outcome.{Outcome}
 use Rattle.outbox.specs.declared.refusal.Outcome.TheVariants.{Done, Refused}
 use Rattle.outbox.specs.declared.outbox.Outbox.{Outbox}
 use Rattle.outbox.specs.declared.outbox.Accepted.{Accepted}
-use Rattle.outbox.proofs.Rings.{placed_then, length-placed, placed-new, placed-others}
+use Rattle.outbox.proofs.Rings.{placed_then, length-placed, placed_new, placed_others}
 use Rattle.outbox.proofs.Contents.{start_le}
 
 pub declined_is : {r : Accepted} {why : Refusal} {o : Outbox} (buf : List ℕ) → r.outcome ≡ Refused why → r.outbox ≡ o → as_accept r buf ≡ declined why o buf
 declined_is buf p q = ap₂ (λ (x : Outcome) (y : Outbox). record { outcome = x; outbox = y; buf = buf }) p q
 
 module _ (o : Outbox) (buf p : List ℕ) where
-  pub accept-short : length buf < o.size → accept_of o buf p ≡ declined BufferShort o buf
+  pub accept_short : length buf < o.size → accept_of o buf p ≡ declined BufferShort o buf
   unfolding accept_of
-  accept-short h = rw (lt-ltb _ _ h)
+  accept_short h = rw (lt-ltb _ _ h)
 
-  pub accept-empty : o.size ≤ length buf → length p ≡ 0 → accept_of o buf p ≡ declined PacketLength o buf
+  pub accept_empty : o.size ≤ length buf → length p ≡ 0 → accept_of o buf p ≡ declined PacketLength o buf
   unfolding accept_of
-  accept-empty h e = rw (le-ltb (length buf) o.size h, eq-eqb (length p) 0 e)
+  accept_empty h e = rw (le-ltb (length buf) o.size h, eq-eqb (length p) 0 e)
 
-  pub accept-long : o.size ≤ length buf → longest < length p → accept_of o buf p ≡ declined PacketLength o buf
+  pub accept_long : o.size ≤ length buf → longest < length p → accept_of o buf p ≡ declined PacketLength o buf
   unfolding accept_of
-  accept-long h e = rw (le-ltb (length buf) o.size h, ne_eqb (length p) 0 (λ w. omega arith), lt-ltb longest (length p) e)
+  accept_long h e = rw (le-ltb (length buf) o.size h, ne_eqb (length p) 0 (λ w. omega arith), lt-ltb longest (length p) e)
 
-  pub accept-full : o.size ≤ length buf → 0 < length p → length p ≤ longest → is_full o (length p) ≡ true → accept_of o buf p ≡ declined NoRoom o buf
+  pub accept_full : o.size ≤ length buf → 0 < length p → length p ≤ longest → is_full o (length p) ≡ true → accept_of o buf p ≡ declined NoRoom o buf
   unfolding accept_of
-  accept-full h z e f = rw (le-ltb (length buf) o.size h, ne_eqb (length p) 0 (λ w. omega arith), le-ltb longest (length p) e, f)
+  accept_full h z e f = rw (le-ltb (length buf) o.size h, ne_eqb (length p) 0 (λ w. omega arith), le-ltb longest (length p) e, f)
 
-  pub accept-done : o.size ≤ length buf → 0 < length p → length p ≤ longest → is_full o (length p) ≡ false
+  pub accept_done : o.size ≤ length buf → 0 < length p → length p ≤ longest → is_full o (length p) ≡ false
       → accept_of o buf p ≡ record { outcome = Done; outbox = grown o (length p); buf = placed o.size (start o) o.used (entry p) buf }
   unfolding accept_of
-  accept-done h z e f = rw (le-ltb (length buf) o.size h, ne_eqb (length p) 0 (λ w. omega arith), le-ltb longest (length p) e, f)
+  accept_done h z e f = rw (le-ltb (length buf) o.size h, ne_eqb (length p) 0 (λ w. omega arith), le-ltb longest (length p) e, f)
 
   -- what holds of each answer where it may be given holds of the one that is given
-  pub accept-cases : (P : Accept → Type 0)
+  pub accept_cases : (P : Accept → Type 0)
       → (length buf < o.size → P (declined BufferShort o buf))
       → (o.size ≤ length buf → (length p ≡ 0) ⊎ (longest < length p) → P (declined PacketLength o buf))
       → (o.size ≤ length buf → 0 < length p → length p ≤ longest → is_full o (length p) ≡ true → P (declined NoRoom o buf))
       → (o.size ≤ length buf → 0 < length p → length p ≤ longest → is_full o (length p) ≡ false
       → P (record { outcome = Done; outbox = grown o (length p); buf = placed o.size (start o) o.used (entry p) buf }))
       → P (accept_of o buf p)
-  accept-cases P short wrong full done =
+  accept_cases P short wrong full done =
       by_le o.size (length buf)
       (λ h.
       by_le 1 (length p)
@@ -63,19 +63,19 @@ module _ (o : Outbox) (buf p : List ℕ) where
       by_le (length p) longest
       (λ s.
       by_test (is_full o (length p))
-      (λ f. subst P (sym (accept-full h (omega arith) s f)) (full h (omega arith) s f))
-      (λ f. subst P (sym (accept-done h (omega arith) s f)) (done h (omega arith) s f)))
-      (λ s. subst P (sym (accept-long h s)) (wrong h (inr s))))
-      (λ z. let e : length p ≡ 0 = omega arith in subst P (sym (accept-empty h e)) (wrong h (inl e))))
-      (λ h. subst P (sym (accept-short h)) (short h))
+      (λ f. subst P (sym (accept_full h (omega arith) s f)) (full h (omega arith) s f))
+      (λ f. subst P (sym (accept_done h (omega arith) s f)) (done h (omega arith) s f)))
+      (λ s. subst P (sym (accept_long h s)) (wrong h (inr s))))
+      (λ z. let e : length p ≡ 0 = omega arith in subst P (sym (accept_empty h e)) (wrong h (inl e))))
+      (λ h. subst P (sym (accept_short h)) (short h))
 
   -- the same where it is one thing for all refusals
-  pub accept-either : (P : Accept → Type 0)
+  pub accept_either : (P : Accept → Type 0)
       → ((why : Refusal) → P (declined why o buf))
       → (o.size ≤ length buf → 0 < length p → length p ≤ longest → is_full o (length p) ≡ false
       → P (record { outcome = Done; outbox = grown o (length p); buf = placed o.size (start o) o.used (entry p) buf }))
       → P (accept_of o buf p)
-  accept-either P refused done = accept-cases P (λ h. refused BufferShort) (λ h w. refused PacketLength) (λ h z s f. refused NoRoom) done
+  accept_either P refused done = accept_cases P (λ h. refused BufferShort) (λ h w. refused PacketLength) (λ h z s f. refused NoRoom) done
 
 -- ---- room
 
@@ -104,7 +104,7 @@ stored n f g u h p b b₁ b₂ e q long inside k₁ k₂ =
 pub accepted_at : (o : Outbox) (buf p : List ℕ) (at : ℕ → ℕ) → ((j : ℕ) → o.used + j < o.size → unused o j ≡ at j)
     → taken (accept_of o buf p).outcome ≡ true → Stored at p buf (accept_of o buf p).buf
 accepted_at o buf p at same =
-    accept-either o buf p (λ (a : Accept). taken a.outcome ≡ true → Stored at p buf a.buf)
+    accept_either o buf p (λ (a : Accept). taken a.outcome ≡ true → Stored at p buf a.buf)
     (λ why e. absurd (true≢false (sym e)))
     (λ h z s f e.
     let room : o.used + length (entry p) ≤ o.size = omega (arith, room_bytes o (length p) f) in
@@ -113,8 +113,8 @@ accepted_at o buf p at same =
       new =
           λ j k.
           ap (λ (i : ℕ). get_or (placed o.size (start o) o.used (entry p) buf) i 0) (sym (same j (omega arith)))
-          ∙ placed-new o.size (start o) o.used (entry p) buf h (start_le o) room j k;
-      others = λ i w. placed-others o.size (start o) o.used (entry p) buf h (start_le o) room i (λ j k q. w j k (q ∙ same j (omega arith)));
+          ∙ placed_new o.size (start o) o.used (entry p) buf h (start_le o) room j k;
+      others = λ i w. placed_others o.size (start o) o.used (entry p) buf h (start_le o) room i (λ j k q. w j k (q ∙ same j (omega arith)));
     })
 
 pub accepted_bytes : (o : Outbox) (buf p : List ℕ) → taken (accept_of o buf p).outcome ≡ true → Stored (unused o) p buf (accept_of o buf p).buf

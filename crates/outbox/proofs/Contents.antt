@@ -8,12 +8,12 @@ use borrow.Author.Tests.{lt-ltb, le-ltb, le-leb, lt-leb}
 use lib.ListN.{length, get_or, take, drop, length-drop, drop_of_length-le}
 use lib.Seq.{length-take-le, take_all, take-nil, drop-drop, take-append-le, get_or-take, get_or-drop}
 use Rattle.laws.proofs.Cases.{by_le}
-use Rattle.laws.proofs.Parts.{drop-take, take-of-take}
+use Rattle.laws.proofs.Parts.{drop-take, take_of_take}
 use Rattle.laws.proofs.Stores.{take_sets}
 use Rattle.outbox.specs.Ring.{turned, placed, around}
 use Rattle.outbox.specs.Outbox.{start, reach, content, size_in, entry, first, behind, front_in, ring_at, InFront, grown, gone, shrunk}
 use Rattle.outbox.specs.declared.outbox.Outbox.{Outbox}
-use Rattle.outbox.proofs.Rings.{around_out, around_lt, length-turned, turned_on, placed-turned, turned-at, part-one, part-two}
+use Rattle.outbox.proofs.Rings.{around_out, around_lt, length-turned, turned_on, placed-turned, turned_at, part_one, part_two}
 
 -- ---- the bytes used
 
@@ -30,34 +30,34 @@ gone_le o n = by_le (reach o) (n + 2) (λ h. rw (le-ltb (n + 2) (reach o) h) (om
 pub gone_whole : (o : Outbox) (n : ℕ) → n + 2 ≤ o.used → o.used ≤ o.size → gone o n ≡ n + 2
 gone_whole o n h room =
     by_le (reach o) (n + 2)
-    (λ k. rw (le-ltb (n + 2) (reach o) k) (omega (arith, reach-used)))
+    (λ k. rw (le-ltb (n + 2) (reach o) k) (omega (arith, reach_used)))
     (λ k. rw (lt-ltb (n + 2) (reach o) k))
   where
-    reach-used : reach o ≡ o.used
-    reach-used = by_le o.size o.used (λ k. rw (le-ltb o.used o.size k) (omega arith)) (λ k. rw (lt-ltb o.used o.size k))
+    reach_used : reach o ≡ o.used
+    reach_used = by_le o.size o.used (λ k. rw (le-ltb o.used o.size k) (omega arith)) (λ k. rw (lt-ltb o.used o.size k))
 
 -- the ring as it is read
 abbrev ring : Outbox → List ℕ → List ℕ
 ring o buf = turned (start o) (take o.size buf)
 
 module _ (o : Outbox) (buf : List ℕ) (long : o.size ≤ length buf) where
-  pub length-ring : length (turned (start o) (take o.size buf)) ≡ o.size
-  length-ring = length-turned (start o) (take o.size buf) ∙ length-take-le o.size buf long
+  pub length_ring : length (turned (start o) (take o.size buf)) ≡ o.size
+  length_ring = length-turned (start o) (take o.size buf) ∙ length-take-le o.size buf long
 
   -- all that is used lies in the ring
-  pub content-is : content o buf ≡ take (reach o) (turned (start o) (take o.size buf))
-  content-is =
+  pub content_is : content o buf ≡ take (reach o) (turned (start o) (take o.size buf))
+  content_is =
       by_le o.size o.used
-      (λ h. rw (le-ltb o.used o.size h) (take_all o.used (ring o buf) (omega (arith, length-ring)) ∙ sym (take_all o.size (ring o buf) (omega (arith, length-ring)))))
+      (λ h. rw (le-ltb o.used o.size h) (take_all o.used (ring o buf) (omega (arith, length_ring)) ∙ sym (take_all o.size (ring o buf) (omega (arith, length_ring)))))
       (λ h. rw (lt-ltb o.used o.size h))
 
   pub length-content : length (content o buf) ≡ reach o
-  length-content = ap length content-is ∙ length-take-le (reach o) (ring o buf) (omega (arith, length-ring, reach_le o))
+  length-content = ap length content_is ∙ length-take-le (reach o) (ring o buf) (omega (arith, length_ring, reach_le o))
 
   -- the length that stands in front
   pub size_is : {h l : ℕ} → 2 ≤ reach o → h ≡ get_or (turned (start o) (take o.size buf)) 0 0 → l ≡ get_or (turned (start o) (take o.size buf)) 1 0 → size_in (content o buf) ≡ h * 256 + l
   size_is r p q =
-      rw (content-is, get_or-take (reach o) (ring o buf) 0 0 (omega arith), get_or-take (reach o) (ring o buf) 1 0 (omega arith)) (ap₂ (λ (x y : ℕ). x * 256 + y) (sym p) (sym q))
+      rw (content_is, get_or-take (reach o) (ring o buf) 0 0 (omega arith), get_or-take (reach o) (ring o buf) 1 0 (omega arith)) (ap₂ (λ (x y : ℕ). x * 256 + y) (sym p) (sym q))
 
 -- ---- the packet in front
 
@@ -76,34 +76,34 @@ first_le c = by_le (length c - 2) (size_in c)
     (λ k. omega (arith, length-take-le (size_in c) (drop 2 c) (simp length-drop (omega arith))))
 
 module _ (o : Outbox) (buf : List ℕ) (long : o.size ≤ length buf) where
-  pub first-is : first (content o buf) ≡ take (length (first (content o buf))) (drop 2 (turned (start o) (take o.size buf)))
-  first-is =
+  pub first_is : first (content o buf) ≡ take (length (first (content o buf))) (drop 2 (turned (start o) (take o.size buf)))
+  first_is =
       let k = size_in (content o buf) in
       let d : drop 2 (content o buf) ≡ take (o.used - 2) (drop 2 (ring o buf)) = drop-take 2 o.used (ring o buf) in
-      ap (take k) d ∙ take-of-take k (o.used - 2) (drop 2 (ring o buf))
+      ap (take k) d ∙ take_of_take k (o.used - 2) (drop 2 (ring o buf))
       ∙ ap (λ (l : List ℕ). take (length (take k l)) (drop 2 (ring o buf))) (sym d)
 
   pub first_fits : (n : ℕ) → n ≡ length (first (content o buf)) → 0 < n → 2 + n ≤ o.size
   first_fits n e z = omega (arith, first_le (content o buf), length-content o buf long, reach_le o)
 
-  pub front-one : (n at : ℕ) → n ≡ length (first (content o buf)) → 0 < n → at ≡ around o.size (start o + 2) → at + n ≤ o.size → take n (drop at buf) ≡ first (content o buf)
-  front-one n at e z a h =
-      sym (part-one o.size (start o) buf long (start_le o) 2 n (first_fits n e z) at a h)
-      ∙ ap (λ (m : ℕ). take m (drop 2 (ring o buf))) e ∙ sym first-is
+  pub front_one : (n at : ℕ) → n ≡ length (first (content o buf)) → 0 < n → at ≡ around o.size (start o + 2) → at + n ≤ o.size → take n (drop at buf) ≡ first (content o buf)
+  front_one n at e z a h =
+      sym (part_one o.size (start o) buf long (start_le o) 2 n (first_fits n e z) at a h)
+      ∙ ap (λ (m : ℕ). take m (drop 2 (ring o buf))) e ∙ sym first_is
 
-  pub front-two : (n at : ℕ) → n ≡ length (first (content o buf)) → 0 < n → at ≡ around o.size (start o + 2) → o.size < at + n
+  pub front_two : (n at : ℕ) → n ≡ length (first (content o buf)) → 0 < n → at ≡ around o.size (start o + 2) → o.size < at + n
       → take (o.size - at) (drop at buf) ++ take (n - (o.size - at)) buf ≡ first (content o buf)
-  front-two n at e z a h =
-      sym (part-two o.size (start o) buf long (start_le o) 2 n (first_fits n e z) at a h)
-      ∙ ap (λ (m : ℕ). take m (drop 2 (ring o buf))) e ∙ sym first-is
+  front_two n at e z a h =
+      sym (part_two o.size (start o) buf long (start_le o) 2 n (first_fits n e z) at a h)
+      ∙ ap (λ (m : ℕ). take m (drop 2 (ring o buf))) e ∙ sym first_is
 
 -- the packet in front, byte by byte
 module _ (o : Outbox) (buf : List ℕ) (long : o.size ≤ length buf) where
   at_front : (i : ℕ) → i < o.size → get_or (turned (start o) (take o.size buf)) i 0 ≡ ring_at o buf i
-  at_front i h = turned-at o.size (start o) buf long (start_le o) i h
+  at_front i h = turned_at o.size (start o) buf long (start_le o) i h
 
-  pub in-front : InFront o buf (front_in o buf)
-  in-front =
+  pub in_front : InFront o buf (front_in o buf)
+  in_front =
       let c = content o buf in
       record {
         long =
@@ -116,7 +116,7 @@ module _ (o : Outbox) (buf : List ℕ) (long : o.size ≤ length buf) where
             (λ h. omega (arith, first_none c (omega (arith, length-content o buf long))));
         bytes =
             λ j h.
-            ap (λ (l : List ℕ). get_or l j 0) (first-is o buf long)
+            ap (λ (l : List ℕ). get_or l j 0) (first_is o buf long)
             ∙ get_or-take (length (front_in o buf)) (drop 2 (ring o buf)) j 0 h ∙ get_or-drop 2 (ring o buf) j 0
             ∙ at_front (2 + j) (omega (arith, first_le c, length-content o buf long, reach_le o));
       }
@@ -128,14 +128,14 @@ module _ (o : Outbox) (buf : List ℕ) (long : o.size ≤ length buf) where
 
   module _ (f h l r x y : ℕ) (fe : f ≡ start o) (re : r ≡ reach o) (two : 2 ≤ r) (hx : h ≡ x) (ly : l ≡ y)
       (xe : x ≡ get_or (turned f (take o.size buf)) 0 0) (ye : y ≡ get_or (turned f (take o.size buf)) 1 0) where
-    read-size : size_in (content o buf) ≡ h * 256 + l
-    read-size = size_is o buf long (omega arith) (hx ∙ (rw fe at xe)) (ly ∙ (rw fe at ye))
+    read_size : size_in (content o buf) ≡ h * 256 + l
+    read_size = size_is o buf long (omega arith) (hx ∙ (rw fe at xe)) (ly ∙ (rw fe at ye))
 
-    pub read-cut : r - 2 < h * 256 + l → r - 2 ≡ length (first (content o buf))
-    read-cut k = sym (first_cut (content o buf) (omega (arith, length-content o buf long)) (omega (arith, length-content o buf long, read-size)) ∙ omega (arith, length-content o buf long))
+    pub read_cut : r - 2 < h * 256 + l → r - 2 ≡ length (first (content o buf))
+    read_cut k = sym (first_cut (content o buf) (omega (arith, length-content o buf long)) (omega (arith, length-content o buf long, read_size)) ∙ omega (arith, length-content o buf long))
 
     pub read_whole : h * 256 + l ≤ r - 2 → h * 256 + l ≡ length (first (content o buf))
-    read_whole k = sym (first_whole (content o buf) (omega (arith, length-content o buf long)) (omega (arith, length-content o buf long, read-size)) ∙ read-size)
+    read_whole k = sym (first_whole (content o buf) (omega (arith, length-content o buf long)) (omega (arith, length-content o buf long, read_size)) ∙ read_size)
 
 -- ---- one packet less
 
@@ -187,13 +187,13 @@ content-shrunk o buf long h =
     let g = gone o m in
     let r = take o.size buf in
     let lr : length r ≡ o.size = length-take-le o.size buf long in
-    let ld : length (drop g (ring o buf)) ≡ o.size - g = simp (length-drop, length-ring o buf long) in
+    let ld : length (drop g (ring o buf)) ≡ o.size - g = simp (length-drop, length_ring o buf long) in
     let turn : turned (start (shrunk o m)) r ≡ turned g (ring o buf) =
     ap (λ (i : ℕ). turned i r) (start-shrunk o m) ∙ sym (turned_on (start o) g o.size r lr (start_le o) (omega (arith, gone_le o m, reach_le o))) in
     rw (lt-leb o.held 1 h)
     (ap (take (reach o - g)) turn
     ∙ take-append-le (reach o - g) (drop g (ring o buf)) (take g (ring o buf)) (omega (arith, reach_le o))
-    ∙ sym (drop-take g (reach o) (ring o buf)) ∙ ap (drop g) (sym (content-is o buf long))
+    ∙ sym (drop-take g (reach o) (ring o buf)) ∙ ap (drop g) (sym (content_is o buf long))
     ∙ behind-gone o (content o buf) (length-content o buf long))
 
 -- ---- one packet more
@@ -203,4 +203,4 @@ pub content-grown : (o : Outbox) (buf p : List ℕ) → o.size ≤ length buf �
 content-grown o buf p long room =
     let e : o.used + 2 + length p ≡ o.used + length (entry p) = omega arith in
     ap₂ (λ (n : ℕ) (l : List ℕ). take n l) e (placed-turned o.size (start o) o.used (entry p) buf long (start_le o))
-    ∙ take_sets (entry p) (ring o buf) o.used (omega (arith, length-ring o buf long))
+    ∙ take_sets (entry p) (ring o buf) o.used (omega (arith, length_ring o buf long))

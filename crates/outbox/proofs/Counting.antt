@@ -12,21 +12,21 @@ use Rattle.link.specs.declared.pppos.PPPoS.{PPPoS}
 use Rattle.outbox.specs.Outbox.{Accept, accept_of, Send, front_in, send_of}
 use Rattle.outbox.specs.History.{taken, went, Call, Book, after, history, begun, Balanced, SizeKept}
 use Rattle.outbox.specs.declared.outbox.Outbox.{Outbox}
-use Rattle.outbox.proofs.Accepting.{accept-either}
-use Rattle.outbox.proofs.Sending.{send-cases, frame_some}
+use Rattle.outbox.proofs.Accepting.{accept_either}
+use Rattle.outbox.proofs.Sending.{send_cases, frame_some}
 
 abbrev one : Bool → ℕ
 one t = cond t 1 0
 
 count_accept : (o : Outbox) (buf p : List ℕ) → (accept_of o buf p).outbox.held ≡ o.held + one (taken (accept_of o buf p).outcome)
 count_accept o buf p =
-    accept-either o buf p (λ (a : Accept). a.outbox.held ≡ o.held + one (taken a.outcome))
+    accept_either o buf p (λ (a : Accept). a.outbox.held ≡ o.held + one (taken a.outcome))
     (λ why. sym (add-zero o.held))
     (λ h z s f. refl)
 
 count_send : (o : Outbox) (l : PPPoS) (buf tx : List ℕ) → (send_of o l buf tx).outbox.held + one (went (send_of o l buf tx).count) ≡ o.held
 count_send o l buf tx =
-    send-cases o l buf tx (λ (s : Send). s.outbox.held + one (went s.count) ≡ o.held)
+    send_cases o l buf tx (λ (s : Send). s.outbox.held + one (went s.count) ≡ o.held)
     (λ h. add-zero o.held)
     (λ h e. add-zero o.held)
     (λ h e u t. add-zero o.held)
@@ -54,8 +54,8 @@ balanced buf cs = balanced_from (begun buf) cs refl
 
 -- no call changes the size
 size_after : (b : Book) (c : Call) → (after b c).outbox.size ≡ b.outbox.size
-size_after b (Call.accepts p buf) = accept-either b.outbox buf p (λ (a : Accept). a.outbox.size ≡ b.outbox.size) (λ why. refl) (λ h z s f. refl)
-size_after b (Call.sends l buf tx) = send-cases b.outbox l buf tx (λ (s : Send). s.outbox.size ≡ b.outbox.size) (λ h. refl) (λ h e. refl) (λ h e u t. refl) (λ h e u t. refl)
+size_after b (Call.accepts p buf) = accept_either b.outbox buf p (λ (a : Accept). a.outbox.size ≡ b.outbox.size) (λ why. refl) (λ h z s f. refl)
+size_after b (Call.sends l buf tx) = send_cases b.outbox l buf tx (λ (s : Send). s.outbox.size ≡ b.outbox.size) (λ h. refl) (λ h e. refl) (λ h e u t. refl) (λ h e u t. refl)
 
 size_from : (b : Book) (cs : List Call) → (history b cs).outbox.size ≡ b.outbox.size
 unfolding history

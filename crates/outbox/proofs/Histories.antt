@@ -24,7 +24,7 @@ use Rattle.outbox.specs.declared.outbox.Outbox.{Outbox}
 use Rattle.outbox.specs.declared.outbox.Accepted.{Accepted}
 use Rattle.outbox.specs.declared.outbox.Sent.{Sent}
 use Rattle.outbox.proofs.Rings.{around_more}
-use Rattle.outbox.proofs.Accepting.{accept-cases, full_count, room_bytes, accepted_at}
+use Rattle.outbox.proofs.Accepting.{accept_cases, full_count, room_bytes, accepted_at}
 use Rattle.outbox.proofs.Sending.{frame_some, opened_up, send-up, frame_most}
 use Rattle.outbox.proofs.Queue.{flat_takes, flat_least, takes-append}
 use Rattle.outbox.proofs.Keeping.{Kept, kept_start, kept_held, kept_begun, front_kept, kept_after}
@@ -38,7 +38,7 @@ room_number_lem : (b : Book) → Kept b → (p buf : List ℕ) → b.outbox.size
     → outcome_number (accept_of b.outbox buf p).outcome ≡ room_number b.outbox.size (held_in b.outbox b.ring) p
 room_number_lem b k p buf h =
     rw (kept_held b k, ← flat_takes k.waiting, ← k.used)
-    (accept-cases o buf p (λ (a : Accept). outcome_number a.outcome ≡ told (eqb (length p) 0 || ltb longest (length p)) (ltb o.size (o.used + (length p + 2))))
+    (accept_cases o buf p (λ (a : Accept). outcome_number a.outcome ≡ told (eqb (length p) 0 || ltb longest (length p)) (ltb o.size (o.used + (length p + 2))))
     (λ s. absurd (omega arith))
     (λ _ w. sym (ap (λ (t : Bool). told t (ltb o.size (o.used + (length p + 2)))) (wrong w)))
     (λ _ z s f. sym (ap₂ told (fair z s) (lt-ltb o.size (o.used + (length p + 2)) (tight f))))
@@ -119,13 +119,13 @@ module _ (buf : List ℕ) (cs : List Call) (alone : Alone (begun buf) cs) where
   kept : Kept (history (begun buf) cs)
   kept = kept_from (begun buf) (kept_begun buf) cs alone
 
-  pub nothing-lost : NothingLost (history (begun buf) cs)
-  nothing-lost =
+  pub nothing_lost : NothingLost (history (begun buf) cs)
+  nothing_lost =
       let b = history (begun buf) cs in
       record { packets = kept.gone; framed = kept.framed; all = ap (λ (l : List (List ℕ)). kept.gone ++ l) (kept_held b kept) ∙ kept.all }
 
-  pub room-counted : RoomCounted (history (begun buf) cs)
-  room-counted =
+  pub room_counted : RoomCounted (history (begun buf) cs)
+  room_counted =
       let b = history (begun buf) cs in
       record { bytes = room_free b kept; number = λ p lent h. room_number_lem b kept p lent h }
 

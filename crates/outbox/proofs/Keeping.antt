@@ -25,9 +25,9 @@ use Rattle.outbox.specs.declared.refusal.Refusal.TheVariants.{BufferShort}
 use Rattle.outbox.specs.declared.refusal.Outcome.TheVariants.{Done, Refused}
 use Rattle.outbox.specs.declared.outbox.Outbox.{Outbox}
 use Rattle.outbox.proofs.Rings.{around_more, length-placed}
-use Rattle.outbox.proofs.Accepting.{accept-either, room_bytes}
-use Rattle.outbox.proofs.Contents.{start_le, start_front, reach_le, gone_le, gone_whole, length-ring, content-grown, content-shrunk}
-use Rattle.outbox.proofs.Sending.{frame_some, up_opened, send-cases}
+use Rattle.outbox.proofs.Accepting.{accept_either, room_bytes}
+use Rattle.outbox.proofs.Contents.{start_le, start_front, reach_le, gone_le, gone_whole, length_ring, content-grown, content-shrunk}
+use Rattle.outbox.proofs.Sending.{frame_some, up_opened, send_cases}
 use Rattle.outbox.proofs.Queue.{flat, flat_nil, first_flat, behind_flat, packets_flat, flat_snoc, flat_takes, takes_nil, takes_cons, takes-append}
 
 pub record Kept (b : Book) : Type 0 where
@@ -144,7 +144,7 @@ kept_more b k p buf u h s f =
 
 kept_accepts : (b : Book) → Kept b → (p buf : List ℕ) → Untouched b buf → Kept (after b (Call.accepts p buf))
 kept_accepts b k p buf u =
-    accept-either b.outbox buf p (λ (a : Accept). Kept (entered b p a))
+    accept_either b.outbox buf p (λ (a : Accept). Kept (entered b p a))
     (kept_declined b k p buf u)
     (λ h z s f. kept_more b k p buf u h s f)
 
@@ -161,7 +161,7 @@ written-frame : (l : PPPoS) (p tx : List ℕ) → holds (remote_map l) (ip_frame
 written-frame l p tx t = rw t (take-append_seam (frame (remote_map l) (ip_frame p)) (drop (length (frame (remote_map l) (ip_frame p))) tx))
 
 length_used : (o : Outbox) (buf : List ℕ) → o.size ≤ length buf → o.used ≤ o.size → length (content o buf) ≡ o.used
-length_used o buf h r = length-take-le o.used (turned (start o) (take o.size buf)) (omega (arith, length-ring o buf h))
+length_used o buf h r = length-take-le o.used (turned (start o) (take o.size buf)) (omega (arith, length_ring o buf h))
 
 shrunk_room : (o : Outbox) (n : ℕ) → (shrunk o n).used ≤ o.size
 shrunk_room o n = by_le o.held 1 (λ h. rw (le-leb o.held 1 h) (omega arith)) (λ h. rw (lt-leb o.held 1 h) (omega (arith, reach_le o)))
@@ -224,7 +224,7 @@ module _ (b : Book) (k : Kept b) (l : PPPoS) (buf tx : List ℕ) (u : Untouched 
 
 kept_sends : (b : Book) → Kept b → (l : PPPoS) (buf tx : List ℕ) → Untouched b buf → Kept (after b (Call.sends l buf tx))
 kept_sends b k l buf tx u =
-    send-cases b.outbox l buf tx (λ (s : Send). Kept (posted b l buf s))
+    send_cases b.outbox l buf tx (λ (s : Send). Kept (posted b l buf s))
     (λ h. kept_idle b k l buf u (record { outcome = Refused BufferShort; count = 0; outbox = b.outbox; tx = tx }) refl refl)
     (λ h e. kept_idle b k l buf u (idle b.outbox tx) refl refl)
     (λ h some d t. kept_idle b k l buf u (kept_first b.outbox l (front_in b.outbox buf) tx) refl refl)

@@ -78,12 +78,12 @@ turned_on f g n r l hf hg = by_le n (f + g) far near
 -- ---- writing
 
 module _ (a b c : List ℕ) where
-  into-second : (u : ℕ) (s : List ℕ) → u + length s ≤ length b → sets ((a ++ b) ++ c) (length a + u) s ≡ (a ++ sets b u s) ++ c
-  into-second u s h =
+  into_second : (u : ℕ) (s : List ℕ) → u + length s ≤ length b → sets ((a ++ b) ++ c) (length a + u) s ≡ (a ++ sets b u s) ++ c
+  into_second u s h =
       sets_left (a ++ b) c s (length a + u) (omega (arith, length-append a b)) ∙ ap (λ (l : List ℕ). l ++ c) (sets_right a b s u)
 
-  into-first : (i : ℕ) (s : List ℕ) → i + length s ≤ length a → sets ((a ++ b) ++ c) i s ≡ (sets a i s ++ b) ++ c
-  into-first i s h =
+  into_first : (i : ℕ) (s : List ℕ) → i + length s ≤ length a → sets ((a ++ b) ++ c) i s ≡ (sets a i s ++ b) ++ c
+  into_first i s h =
       sets_left (a ++ b) c s i (omega (arith, length-append a b)) ∙ ap (λ (l : List ℕ). l ++ c) (sets_left a b s i h)
 
 module _ (n f u : ℕ) (s buf : List ℕ) (long : n ≤ length buf) (inside : f ≤ n) (room : u + length s ≤ n) where
@@ -97,9 +97,9 @@ module _ (n f u : ℕ) (s buf : List ℕ) (long : n ≤ length buf) (inside : f 
   whole = rw (take-append-drop f (take n buf)) (take-append-drop n buf)
 
   -- what stands where the ring is turned back
-  pub placed-is : (x y : List ℕ) → length y ≡ n - f → sets (turned f (take n buf)) u s ≡ y ++ x → placed n f u s buf ≡ (x ++ y) ++ drop n buf
+  pub placed_is : (x y : List ℕ) → length y ≡ n - f → sets (turned f (take n buf)) u s ≡ y ++ x → placed n f u s buf ≡ (x ++ y) ++ drop n buf
   unfolding placed
-  placed-is x y h e = rw e (ap (λ (l : List ℕ). l ++ drop n buf) (swapped (n - f) x y h))
+  placed_is x y h e = rw e (ap (λ (l : List ℕ). l ++ drop n buf) (swapped (n - f) x y h))
 
   pub put_one : (at : ℕ) → at ≡ around n (f + u) → at + length s ≤ n → sets buf at s ≡ placed n f u s buf
   put_one at e h = by_le n (f + u) far near
@@ -110,8 +110,8 @@ module _ (n f u : ℕ) (s buf : List ℕ) (long : n ≤ length buf) (inside : f 
           let b = drop f (take n buf) in
           let fits : u + length s ≤ length b = omega (arith, lb, e ∙ around_in n (f + u) k) in
           let i : at ≡ length a + u = e ∙ around_in n (f + u) k ∙ sym (ap (λ (m : ℕ). m + u) la) in
-          ap (λ (l : List ℕ). sets l at s) (sym whole) ∙ rw i (into-second a b (drop n buf) u s fits)
-          ∙ sym (placed-is a (sets b u s) (length-sets b u s ∙ lb) (sets_left b a s u fits))
+          ap (λ (l : List ℕ). sets l at s) (sym whole) ∙ rw i (into_second a b (drop n buf) u s fits)
+          ∙ sym (placed_is a (sets b u s) (length-sets b u s ∙ lb) (sets_left b a s u fits))
 
       far : n ≤ f + u → sets buf at s ≡ placed n f u s buf
       far k =
@@ -120,8 +120,8 @@ module _ (n f u : ℕ) (s buf : List ℕ) (long : n ≤ length buf) (inside : f 
           let i : at ≡ f + u - n = e ∙ around_out n (f + u) k in
           let j : u ≡ length b + at = omega (arith, lb) in
           let fits : at + length s ≤ length a = omega (arith, la) in
-          ap (λ (l : List ℕ). sets l at s) (sym whole) ∙ into-first a b (drop n buf) at s fits
-          ∙ sym (placed-is (sets a at s) b lb (ap (λ (m : ℕ). sets (b ++ a) m s) j ∙ sets_right b a s at))
+          ap (λ (l : List ℕ). sets l at s) (sym whole) ∙ into_first a b (drop n buf) at s fits
+          ∙ sym (placed_is (sets a at s) b lb (ap (λ (m : ℕ). sets (b ++ a) m s) j ∙ sets_right b a s at))
 
   pub put_two : (at : ℕ) → at ≡ around n (f + u) → n < at + length s → sets (sets buf at (take (n - at) s)) 0 (drop (n - at) s) ≡ placed n f u s buf
   put_two at e h = by_le n (f + u) (λ k. absurd (omega (arith, e ∙ around_out n (f + u) k))) near
@@ -143,32 +143,32 @@ module _ (n f u : ℕ) (s buf : List ℕ) (long : n ≤ length buf) (inside : f 
           ap (sets (b ++ a) u) (sym (take-append-drop (n - at) s)) ∙ sym (sets_append p q (b ++ a) u)
           ∙ rw (sets_left b a p u fits, ends) (sets_right (sets b u p) a q 0) in
           ap (λ (l : List ℕ). sets (sets l at p) 0 q) (sym whole)
-          ∙ ap (λ (l : List ℕ). sets l 0 q) (ap (λ (m : ℕ). sets ((a ++ b) ++ drop n buf) m p) j ∙ into-second a b (drop n buf) u p fits)
-          ∙ into-first a (sets b u p) (drop n buf) 0 q fits2
-          ∙ sym (placed-is (sets a 0 q) (sets b u p) (length-sets b u p ∙ lb) split)
+          ∙ ap (λ (l : List ℕ). sets l 0 q) (ap (λ (m : ℕ). sets ((a ++ b) ++ drop n buf) m p) j ∙ into_second a b (drop n buf) u p fits)
+          ∙ into_first a (sets b u p) (drop n buf) 0 q fits2
+          ∙ sym (placed_is (sets a 0 q) (sets b u p) (length-sets b u p ∙ lb) split)
 
 -- what a writing leaves, turned; and the rest of the buffer
 module _ (n f u : ℕ) (s buf : List ℕ) (long : n ≤ length buf) (inside : f ≤ n) where
   length-written : length (sets (turned f (take n buf)) u s) ≡ n
   length-written = length-sets (turned f (take n buf)) u s ∙ length-turned f (take n buf) ∙ length-take-le n buf long
 
-  length-ring : length (turned (n - f) (sets (turned f (take n buf)) u s)) ≡ n
-  length-ring = length-turned (n - f) (sets (turned f (take n buf)) u s) ∙ length-written
+  length_ring : length (turned (n - f) (sets (turned f (take n buf)) u s)) ≡ n
+  length_ring = length-turned (n - f) (sets (turned f (take n buf)) u s) ∙ length-written
 
   pub placed-turned : turned f (take n (placed n f u s buf)) ≡ sets (turned f (take n buf)) u s
   unfolding placed
   placed-turned =
-      ap (turned f) (take_at (turned (n - f) (sets (turned f (take n buf)) u s)) (drop n buf) n length-ring)
+      ap (turned f) (take_at (turned (n - f) (sets (turned f (take n buf)) u s)) (drop n buf) n length_ring)
       ∙ turned_back f n (sets (turned f (take n buf)) u s) length-written inside
 
   pub placed-drop : drop n (placed n f u s buf) ≡ drop n buf
   unfolding placed
-  placed-drop = drop_at (turned (n - f) (sets (turned f (take n buf)) u s)) (drop n buf) n length-ring
+  placed-drop = drop_at (turned (n - f) (sets (turned f (take n buf)) u s)) (drop n buf) n length_ring
 
   pub length-placed : length (placed n f u s buf) ≡ length buf
   unfolding placed
   length-placed =
-      omega (arith, length-append (turned (n - f) (sets (turned f (take n buf)) u s)) (drop n buf), length-ring, length-drop n buf)
+      omega (arith, length-append (turned (n - f) (sets (turned f (take n buf)) u s)) (drop n buf), length_ring, length-drop n buf)
 
 pub placed_then : (n f u : ℕ) (s t buf : List ℕ) → n ≤ length buf → f ≤ n → placed n f (u + length s) t (placed n f u s buf) ≡ placed n f u (s ++ t) buf
 unfolding placed
@@ -180,14 +180,14 @@ placed_then n f u s t buf long inside = ap₂ (λ (x y : List ℕ). turned (n - 
 -- ---- reading
 
 module _ (n f : ℕ) (buf : List ℕ) (long : n ≤ length buf) (inside : f ≤ n) where
-  length-turn : length (turned f (take n buf)) ≡ n
-  length-turn = length-turned f (take n buf) ∙ length-take-le n buf long
+  length_turn : length (turned f (take n buf)) ≡ n
+  length_turn = length-turned f (take n buf) ∙ length-take-le n buf long
 
   second : length (drop f (take n buf)) ≡ n - f
   second = simp (length-drop, length-take-le n buf long)
 
-  pub turned-at : (i : ℕ) → i < n → get_or (turned f (take n buf)) i 0 ≡ get_or buf (around n (f + i)) 0
-  turned-at i h = by_le n (f + i) far near
+  pub turned_at : (i : ℕ) → i < n → get_or (turned f (take n buf)) i 0 ≡ get_or buf (around n (f + i)) 0
+  turned_at i h = by_le n (f + i) far near
     where
       near : f + i < n → get_or (turned f (take n buf)) i 0 ≡ get_or buf (around n (f + i)) 0
       near k =
@@ -203,22 +203,22 @@ module _ (n f : ℕ) (buf : List ℕ) (long : n ≤ length buf) (inside : f ≤ 
           ∙ get_or-take f (take n buf) j 0 (omega arith) ∙ get_or-take n buf j 0 (omega arith))
 
   module _ (i m : ℕ) (room : i + m ≤ n) where
-    near-part : f + i < n → drop i (turned f (take n buf)) ≡ take (n - (f + i)) (drop (f + i) buf) ++ take f (take n buf)
-    near-part k =
+    near_part : f + i < n → drop i (turned f (take n buf)) ≡ take (n - (f + i)) (drop (f + i) buf) ++ take f (take n buf)
+    near_part k =
         drop-append-le i (drop f (take n buf)) (take f (take n buf)) (omega (arith, second))
         ∙ ap (λ (l : List ℕ). l ++ take f (take n buf)) (drop-drop i f (take n buf) ∙ drop-take (f + i) n buf)
 
-    near-long : f + i < n → length (take (n - (f + i)) (drop (f + i) buf)) ≡ n - (f + i)
-    near-long k = length-take-le (n - (f + i)) (drop (f + i) buf) (simp length-drop (omega arith))
+    near_long : f + i < n → length (take (n - (f + i)) (drop (f + i) buf)) ≡ n - (f + i)
+    near_long k = length-take-le (n - (f + i)) (drop (f + i) buf) (simp length-drop (omega arith))
 
-    pub part-one : (at : ℕ) → at ≡ around n (f + i) → at + m ≤ n → take m (drop i (turned f (take n buf))) ≡ take m (drop at buf)
-    part-one at e h = by_le n (f + i) far near
+    pub part_one : (at : ℕ) → at ≡ around n (f + i) → at + m ≤ n → take m (drop i (turned f (take n buf))) ≡ take m (drop at buf)
+    part_one at e h = by_le n (f + i) far near
       where
         near : f + i < n → take m (drop i (turned f (take n buf))) ≡ take m (drop at buf)
         near k =
             let q : at ≡ f + i = e ∙ around_in n (f + i) k in
             rw q
-            (ap (take m) (near-part k) ∙ take-append-le m (take (n - (f + i)) (drop (f + i) buf)) (take f (take n buf)) (omega (arith, near-long k))
+            (ap (take m) (near_part k) ∙ take-append-le m (take (n - (f + i)) (drop (f + i) buf)) (take f (take n buf)) (omega (arith, near_long k))
             ∙ take-take m (n - (f + i)) (drop (f + i) buf) (omega arith))
 
         far : n ≤ f + i → take m (drop i (turned f (take n buf))) ≡ take m (drop at buf)
@@ -229,46 +229,46 @@ module _ (n f : ℕ) (buf : List ℕ) (long : n ≤ length buf) (inside : f ≤ 
             ∙ ap (take m) (drop-append-add (drop f (take n buf)) (take f (take n buf)) at ∙ ap (drop at) (take-take f n buf inside) ∙ drop-take at f buf)
             ∙ take-take m (f - at) (drop at buf) (omega arith)
 
-    pub part-two : (at : ℕ) → at ≡ around n (f + i) → n < at + m → take m (drop i (turned f (take n buf))) ≡ take (n - at) (drop at buf) ++ take (m - (n - at)) buf
-    part-two at e h = by_le n (f + i) (λ k. absurd (omega (arith, e ∙ around_out n (f + i) k))) near
+    pub part_two : (at : ℕ) → at ≡ around n (f + i) → n < at + m → take m (drop i (turned f (take n buf))) ≡ take (n - at) (drop at buf) ++ take (m - (n - at)) buf
+    part_two at e h = by_le n (f + i) (λ k. absurd (omega (arith, e ∙ around_out n (f + i) k))) near
       where
         near : f + i < n → take m (drop i (turned f (take n buf))) ≡ take (n - at) (drop at buf) ++ take (m - (n - at)) buf
         near k =
             let q : at ≡ f + i = e ∙ around_in n (f + i) k in
             let x = take (n - (f + i)) (drop (f + i) buf) in
             let r = m - (n - (f + i)) in
-            let lx : length x ≡ n - (f + i) = near-long k in
+            let lx : length x ≡ n - (f + i) = near_long k in
             let j : m ≡ length x + r = omega arith in
             rw q
-            (ap (take m) (near-part k) ∙ ap (λ (y : ℕ). take y (x ++ take f (take n buf))) j ∙ take-append-add x (take f (take n buf)) r
+            (ap (take m) (near_part k) ∙ ap (λ (y : ℕ). take y (x ++ take f (take n buf))) j ∙ take-append-add x (take f (take n buf)) r
             ∙ ap (λ (l : List ℕ). x ++ l) (take-take r f (take n buf) (omega arith) ∙ take-take r n buf (omega arith)))
 
 -- ---- index by index
 
 module _ (n f u : ℕ) (s buf : List ℕ) (long : n ≤ length buf) (inside : f ≤ n) (room : u + length s ≤ n) where
-  still-long : n ≤ length (placed n f u s buf)
-  still-long = omega (arith, length-placed n f u s buf long inside)
+  still_long : n ≤ length (placed n f u s buf)
+  still_long = omega (arith, length-placed n f u s buf long inside)
 
   -- what stands behind the first i from the front on
   at_front : (i : ℕ) → i < n → get_or (placed n f u s buf) (around n (f + i)) 0 ≡ get_or (sets (turned f (take n buf)) u s) i 0
   at_front i h =
-      sym (turned-at n f (placed n f u s buf) still-long inside i h)
+      sym (turned_at n f (placed n f u s buf) still_long inside i h)
       ∙ ap (λ (l : List ℕ). get_or l i 0) (placed-turned n f u s buf long inside)
 
-  pub placed-new : (j : ℕ) → j < length s → get_or (placed n f u s buf) (around n (f + (u + j))) 0 ≡ get_or s j 0
-  placed-new j h =
+  pub placed_new : (j : ℕ) → j < length s → get_or (placed n f u s buf) (around n (f + (u + j))) 0 ≡ get_or s j 0
+  placed_new j h =
       at_front (u + j) (omega arith)
-      ∙ sets_in s (turned f (take n buf)) u j (omega (arith, length-turn n f buf long inside)) h
+      ∙ sets_in s (turned f (take n buf)) u j (omega (arith, length_turn n f buf long inside)) h
 
   -- the byte at index i is so many behind the front
-  behind-front : (i : ℕ) → i < n → (k : ℕ) × (k < n) × (around n (f + k) ≡ i)
-  behind-front i h =
+  behind_front : (i : ℕ) → i < n → (k : ℕ) × (k < n) × (around n (f + k) ≡ i)
+  behind_front i h =
       by_le f i
       (λ p. (i - f, omega arith, around_in n (f + (i - f)) (omega arith) ∙ omega arith))
       (λ p. (i + (n - f), omega arith, around_out n (f + (i + (n - f))) (omega arith) ∙ omega arith))
 
-  pub placed-others : (i : ℕ) → ((j : ℕ) → j < length s → i ≡ around n (f + (u + j)) → ⊥) → get_or (placed n f u s buf) i 0 ≡ get_or buf i 0
-  placed-others i h = by_le n i far near
+  pub placed_others : (i : ℕ) → ((j : ℕ) → j < length s → i ≡ around n (f + (u + j)) → ⊥) → get_or (placed n f u s buf) i 0 ≡ get_or buf i 0
+  placed_others i h = by_le n i far near
     where
       far : n ≤ i → get_or (placed n f u s buf) i 0 ≡ get_or buf i 0
       far p =
@@ -279,10 +279,10 @@ module _ (n f u : ℕ) (s buf : List ℕ) (long : n ≤ length buf) (inside : f 
 
       near : i < n → get_or (placed n f u s buf) i 0 ≡ get_or buf i 0
       near p =
-          let b = behind-front i p in
+          let b = behind_front i p in
           let k = b.0 in
           let e : around n (f + k) ≡ i = b.2 in
           let out : u ≤ k → k < u + length s → ⊥ = λ x y. let j : u + (k - u) ≡ k = omega arith in h (k - u) (omega arith) (sym e ∙ ap (λ (m : ℕ). around n (f + m)) (sym j)) in
           ap (λ (m : ℕ). get_or (placed n f u s buf) m 0) (sym e) ∙ at_front k b.1
           ∙ sets_out s (turned f (take n buf)) u k out
-          ∙ turned-at n f buf long inside k b.1 ∙ ap (λ (m : ℕ). get_or buf m 0) e
+          ∙ turned_at n f buf long inside k b.1 ∙ ap (λ (m : ℕ). get_or buf m 0) e

@@ -23,7 +23,7 @@ use Rattle.link.specs.Link.{remote_map, ip_frame, Sends}
 use Rattle.link.specs.declared.refusal.Refusal.TheVariants as link
 use Rattle.link.specs.declared.refusal.Outcome as linked
 use Rattle.link.specs.declared.pppos.PPPoS.{PPPoS}
-use Rattle.link.specs.declared.pppos.Sent as linkSent
+use Rattle.link.specs.declared.pppos.Sent as link_sent
 use Rattle.outbox.specs.Outbox.{Send, up, front_in, sent_first, kept_first, idle, send_of, as_send, answered_by, answered, shrunk}
 use Rattle.outbox.specs.History.{went}
 use Rattle.outbox.specs.declared.refusal.Refusal.TheVariants.{BufferShort, Link}
@@ -51,17 +51,17 @@ opened_up l e = ap is_opened e
 -- ---- by its tests
 
 module _ (o : Outbox) (l : PPPoS) (buf tx : List ℕ) where
-  pub send-short : length buf < o.size → send_of o l buf tx ≡ record { outcome = Refused BufferShort; count = 0; outbox = o; tx = tx }
+  pub send_short : length buf < o.size → send_of o l buf tx ≡ record { outcome = Refused BufferShort; count = 0; outbox = o; tx = tx }
   unfolding send_of
-  send-short h = rw (lt-ltb _ _ h)
+  send_short h = rw (lt-ltb _ _ h)
 
   pub send-none : o.size ≤ length buf → o.held ≡ 0 → send_of o l buf tx ≡ idle o tx
   unfolding send_of
   send-none h e = rw (le-ltb (length buf) o.size h, eq-eqb o.held 0 e)
 
-  pub send-down : o.size ≤ length buf → (o.held ≡ 0 → ⊥) → up l ≡ false → send_of o l buf tx ≡ idle o tx
+  pub send_down : o.size ≤ length buf → (o.held ≡ 0 → ⊥) → up l ≡ false → send_of o l buf tx ≡ idle o tx
   unfolding send_of
-  send-down h e d = rw (le-ltb (length buf) o.size h, ne_eqb o.held 0 e, d)
+  send_down h e d = rw (le-ltb (length buf) o.size h, ne_eqb o.held 0 e, d)
 
   pub send-up : o.size ≤ length buf → (o.held ≡ 0 → ⊥) → up l ≡ true
       → send_of o l buf tx ≡ cond (holds (remote_map l) (ip_frame (front_in o buf)) (length tx)) (sent_first o l (front_in o buf) tx) (kept_first o l (front_in o buf) tx)
@@ -69,13 +69,13 @@ module _ (o : Outbox) (l : PPPoS) (buf tx : List ℕ) where
   send-up h e d = rw (le-ltb (length buf) o.size h, ne_eqb o.held 0 e, d)
 
   -- what holds of each answer where it may be given holds of the one that is given
-  pub send-cases : (P : Send → Type 0)
+  pub send_cases : (P : Send → Type 0)
       → (length buf < o.size → P (record { outcome = Refused BufferShort; count = 0; outbox = o; tx = tx }))
       → (o.size ≤ length buf → (o.held ≡ 0) ⊎ (up l ≡ false) → P (idle o tx))
       → (o.size ≤ length buf → (o.held ≡ 0 → ⊥) → up l ≡ true → holds (remote_map l) (ip_frame (front_in o buf)) (length tx) ≡ false → P (kept_first o l (front_in o buf) tx))
       → (o.size ≤ length buf → (o.held ≡ 0 → ⊥) → up l ≡ true → holds (remote_map l) (ip_frame (front_in o buf)) (length tx) ≡ true → P (sent_first o l (front_in o buf) tx))
       → P (send_of o l buf tx)
-  send-cases P short none stays goes =
+  send_cases P short none stays goes =
       by_le o.size (length buf)
       (λ h.
       by_test (eqb o.held 0)
@@ -84,24 +84,24 @@ module _ (o : Outbox) (l : PPPoS) (buf tx : List ℕ) where
       let some = eqb-false o.held 0 e in
       by_test (up l)
       (λ u. subst P (sym (send-up h some u)) (cond_by P (holds (remote_map l) (ip_frame (front_in o buf)) (length tx)) (goes h some u) (stays h some u)))
-      (λ u. subst P (sym (send-down h some u)) (none h (inr u)))))
-      (λ h. subst P (sym (send-short h)) (short h))
+      (λ u. subst P (sym (send_down h some u)) (none h (inr u)))))
+      (λ h. subst P (sym (send_short h)) (short h))
 
 -- what the link's answer comes to is what the definition says
-pub answer_is : (o : Outbox) (n : ℕ) (e : linkSent.Sent) {l : PPPoS} {p tx tx' : List ℕ} → Sends l p tx e.outcome e.count tx' → n ≡ length p
+pub answer_is : (o : Outbox) (n : ℕ) (e : link_sent.Sent) {l : PPPoS} {p tx tx' : List ℕ} → Sends l p tx e.outcome e.count tx' → n ≡ length p
     → as_send (answered o n e) tx' ≡ cond (holds (remote_map l) (ip_frame p) (length tx)) (sent_first o l p tx) (kept_first o l p tx)
 answer_is o n e {l} {p} {tx} {tx'} s q =
     go (holds (remote_map l) (ip_frame p) (length tx)) s.outcome s.lays.count
-    ∙ ap (λ (b : List ℕ). cond (holds (remote_map l) (ip_frame p) (length tx)) (did b) (not-did b)) s.lays.bytes
+    ∙ ap (λ (b : List ℕ). cond (holds (remote_map l) (ip_frame p) (length tx)) (did b) (not_did b)) s.lays.bytes
   where
     did : List ℕ → Send
     did b = record { outcome = Done; count = length (frame (remote_map l) (ip_frame p)); outbox = shrunk o (length p); tx = b }
 
-    not-did : List ℕ → Send
-    not-did b = record { outcome = Refused (Link (link.Framing framing.BufferFull)); count = 0; outbox = o; tx = b }
+    not_did : List ℕ → Send
+    not_did b = record { outcome = Refused (Link (link.Framing framing.BufferFull)); count = 0; outbox = o; tx = b }
 
     go : (t : Bool) → e.outcome ≡ cond t linked.TheVariants.Done (linked.TheVariants.Refused (link.Framing framing.BufferFull)) → e.count ≡ cond t (length (frame (remote_map l) (ip_frame p))) 0
-        → as_send (answered o n e) tx' ≡ cond t (did tx') (not-did tx')
+        → as_send (answered o n e) tx' ≡ cond t (did tx') (not_did tx')
     go true a b =
         ap (λ x. as_send (answered_by x e.count o n) tx') a
         ∙ ap₂ (λ (k m : ℕ). record { outcome = Done; count = k; outbox = shrunk o m; tx = tx' }) b q

@@ -8,7 +8,7 @@ use Rattle.link.specs.Link.{remote_map, ip_frame}
 use Rattle.link.specs.declared.refusal.Refusal.TheVariants as link
 use Rattle.link.specs.declared.refusal.Outcome as linked
 use Rattle.link.specs.declared.pppos.PPPoS.{PPPoS}
-use Rattle.link.specs.declared.pppos.Sent as linkSent
+use Rattle.link.specs.declared.pppos.Sent as link_sent
 use Rattle.outbox.specs.Ring.{turned, placed, around}
 use Rattle.outbox.specs.declared.refusal.Refusal.{Refusal}
 use Rattle.outbox.specs.declared.refusal.Refusal.TheVariants.{BufferShort, PacketLength, NoRoom, Link}
@@ -199,5 +199,5 @@ abbrev pub answered_by : linked.Outcome → ℕ → Outbox → ℕ → Sent
 answered_by linked.TheVariants.Done k o n = record { outcome = Done; count = k; outbox = shrunk o n }
 answered_by (linked.TheVariants.Refused why) k o n = record { outcome = Refused (Link why); count = k; outbox = o }
 
-abbrev pub answered : Outbox → ℕ → linkSent.Sent → Sent
+abbrev pub answered : Outbox → ℕ → link_sent.Sent → Sent
 answered o n e = answered_by e.outcome e.count o n

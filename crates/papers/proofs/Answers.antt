@@ -23,7 +23,7 @@ use Rattle.options.proofs.Suggesting.{judge_suggestion}
 use Rattle.options.proofs.Wires.{content_pkt}
 use Rattle.papers.proofs.Layouts1661.{laid_one, laid_both, bytes_of, options_bytes}
 use Rattle.papers.proofs.Walked.{walk_options, walk_options_lem, is_whole, Typed, options_typed}
-use Rattle.papers.proofs.Listed.{answerTo, answers, Top, acked_all}
+use Rattle.papers.proofs.Listed.{answer_to, answers, Top, acked_all}
 use Rattle.papers.proofs.Verdicts.{verdict_of, judged_verdict, judged_proto, judged_all}
 
 -- ---- an option joins a reply
@@ -66,7 +66,7 @@ record Answered (f : ℕ → List ℕ → Verdict) (u : List ℕ) (v : Verdict) 
   laid : Options (content_of r.packet) (cond (eqb (rank_of v) (rank_of r.verdict)) ls [] ++ answers f u r.verdict os)
 
 module _ (f : ℕ → List ℕ → Verdict) (u : List ℕ) (o : Option) (os : List Option) (r s z : Reply) (p : Proto) (ls : List Option) (c : o.type < 256) where
-  extend : Stepped r s p (f o.type o.value) o.type (answerTo f u o).value → is_done s.outcome ≡ true
+  extend : Stepped r s p (f o.type o.value) o.type (answer_to f u o).value → is_done s.outcome ≡ true
       → Options (content_of r.packet) ls
       → ((ms : List Option) → s.proto ≡ p → Options (content_of s.packet) ms → Answered f u s.verdict ms os z)
       → Answered f u r.verdict ls (o ∷ os) z
@@ -81,7 +81,7 @@ module _ (f : ℕ → List ℕ → Verdict) (u : List ℕ) (o : Option) (os : Li
         laid = rw (ne_eqb _ _ n, ← k) a.laid;
       }
   extend (alone q m h e i) d l ih =
-      let a = ih (answerTo f u o ∷ []) q (rw i (laid_one _ _ c (omega arith))) in
+      let a = ih (answer_to f u o ∷ []) q (rw i (laid_one _ _ c (omega arith))) in
       let k : rank_of s.verdict ≡ rank_of (f o.type o.value) = ap rank_of e in
       let n : rank_of r.verdict ≡ rank_of z.verdict → ⊥ = λ y. omega (arith, a.up) in
       record {
@@ -90,7 +90,7 @@ module _ (f : ℕ → List ℕ → Verdict) (u : List ℕ) (o : Option) (os : Li
         laid = rw (ne_eqb _ _ n, ← joined_alone, ← k) a.laid;
       }
   extend (another q m h e i) d l ih =
-      let a = ih (ls ++ (answerTo f u o ∷ [])) q (rw i (laid_both l (laid_one _ _ c (omega arith)))) in
+      let a = ih (ls ++ (answer_to f u o ∷ [])) q (rw i (laid_both l (laid_one _ _ c (omega arith)))) in
       let k : rank_of s.verdict ≡ rank_of (f o.type o.value) = ap rank_of e in
       record {
         up = omega (arith, a.up);
@@ -148,26 +148,26 @@ abbrev pub reply_to : Proto → List ℕ → Reply
 reply_to p s = reply_of (fresh_reply p) (walk_of s)
 
 module _ (p : Proto) {s : List ℕ} {os : List Option} (l : Options s os) (d : is_done (reply_to p s).outcome ≡ true) where
-  from-fresh : Answered (verdict_of p) (suggestion_of p) Ack [] os (reply_to p s)
-  from-fresh =
+  from_fresh : Answered (verdict_of p) (suggestion_of p) Ack [] os (reply_to p s)
+  from_fresh =
       let e = walk_options_lem 0 l in
       rw e (reply_answered os (fresh_reply p) [] (options_typed l) (rw content_pkt none) (rw e at d))
 
   -- no option's verdict is higher than the reply's, and the reply holds those that have it
-  pub reply-top : Top (verdict_of p) (reply_to p s).verdict os
-  reply-top = from-fresh.top
+  pub reply_top : Top (verdict_of p) (reply_to p s).verdict os
+  reply_top = from_fresh.top
 
-  pub reply-options : Options (content_of (reply_to p s).packet) (answers (verdict_of p) (suggestion_of p) (reply_to p s).verdict os)
-  reply-options = rw no_list at from-fresh.laid
+  pub reply_options : Options (content_of (reply_to p s).packet) (answers (verdict_of p) (suggestion_of p) (reply_to p s).verdict os)
+  reply_options = rw no_list at from_fresh.laid
 
-  pub reply-proto : (reply_to p s).proto ≡ judged_all p os
-  reply-proto = let e = walk_options_lem 0 l in rw e (answered_proto os (fresh_reply p) (rw e at d))
+  pub reply_proto : (reply_to p s).proto ≡ judged_all p os
+  reply_proto = let e = walk_options_lem 0 l in rw e (answered_proto os (fresh_reply p) (rw e at d))
 
   -- an Ack holds the bytes of the request
-  pub reply-ack : (reply_to p s).verdict ≡ Ack → content_of (reply_to p s).packet ≡ s
-  reply-ack e =
-      let a : answers (verdict_of p) (suggestion_of p) (reply_to p s).verdict os ≡ os = rw e (acked_all (verdict_of p) (suggestion_of p) os (rw e at reply-top)) in
-      options_bytes reply-options ∙ ap bytes_of a ∙ sym (options_bytes l)
+  pub reply_ack : (reply_to p s).verdict ≡ Ack → content_of (reply_to p s).packet ≡ s
+  reply_ack e =
+      let a : answers (verdict_of p) (suggestion_of p) (reply_to p s).verdict os ≡ os = rw e (acked_all (verdict_of p) (suggestion_of p) os (rw e at reply_top)) in
+      options_bytes reply_options ∙ ap bytes_of a ∙ sym (options_bytes l)
 
 -- ---- a walk that is cut ends in a refusal
 

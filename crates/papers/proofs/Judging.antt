@@ -74,23 +74,23 @@ in_list f rej p c i info =
     rw (le-ltb _ _ h, data_of p c i info) refl
 
 module _ (f : OptionFsm) (n : is_closed f.state ≡ false) {bytes info : List ℕ} {p i : ℕ} where
-  pub by-nak : Carried bytes p configure_nak i info → handle_of f bytes ≡ nack_with f (nacks_of false f.proto (walk_of info))
+  pub by_nak : Carried bytes p configure_nak i info → handle_of f bytes ≡ nack_with f (nacks_of false f.proto (walk_of info))
   unfolding act_of
-  by-nak k = by_code f k ∙ rw n (in_list f false p configure_nak i info)
+  by_nak k = by_code f k ∙ rw n (in_list f false p configure_nak i info)
 
-  pub by-reject : Carried bytes p configure_reject i info → handle_of f bytes ≡ nack_with f (nacks_of true f.proto (walk_of info))
+  pub by_reject : Carried bytes p configure_reject i info → handle_of f bytes ≡ nack_with f (nacks_of true f.proto (walk_of info))
   unfolding act_of
-  by-reject k = by_code f k ∙ rw n (in_list f true p configure_reject i info)
+  by_reject k = by_code f k ∙ rw n (in_list f true p configure_reject i info)
 
   -- the values that a Nak has replace the own ones
-  pub takes-nak : {os : List Option} → Carried bytes p configure_nak i info → Options info os
+  pub takes_nak : {os : List Option} → Carried bytes p configure_nak i info → Options info os
       → handle_of f bytes ≡ requested (after_nacked f (taken_up false f.proto os)) []
-  takes-nak k l = by-nak k ∙ taken f false l
+  takes_nak k l = by_nak k ∙ taken f false l
 
   -- the options that a Reject has are dropped
   pub takes-reject : {os : List Option} → Carried bytes p configure_reject i info → Options info os
       → handle_of f bytes ≡ requested (after_nacked f (taken_up true f.proto os)) []
-  takes-reject k l = by-reject k ∙ taken f true l
+  takes-reject k l = by_reject k ∙ taken f true l
 
   -- ---- Configure-Ack
 
@@ -118,10 +118,10 @@ module _ (f : OptionFsm) {bytes info : List ℕ} {p i : ℕ} where
   discards k = by_code f k
 
   -- what is Closed answers all but an echo and what is to be discarded with a Terminate-Ack
-  pub closed-terminates : {c : ℕ} → is_closed f.state ≡ true → Carried bytes p c i info → (c ≡ echo_request → ⊥) → (c ≡ discard_request → ⊥)
+  pub closed_terminates : {c : ℕ} → is_closed f.state ≡ true → Carried bytes p c i info → (c ≡ echo_request → ⊥) → (c ≡ discard_request → ⊥)
       → ((handle_of f bytes).fsm ≡ f) × One (handle_of f bytes).sent (number_for f.proto) terminate_ack i []
   unfolding act_of
-  closed-terminates {c} n k a b = rw (by_code f k, ne_eqb c 9 a, ne_eqb c 11 b, n) (terminates f k.packet.id_octet)
+  closed_terminates {c} n k a b = rw (by_code f k, ne_eqb c 9 a, ne_eqb c 11 b, n) (terminates f k.packet.id_octet)
 
   -- ---- Echo-Request
 

@@ -52,9 +52,9 @@ module _ (c : Credentials) (p : Pap) (s : is_pap_sent p.state ≡ true) {bytes i
   unfolding pap_act_of
   takes-ack k = by_code c p k ∙ rw s refl
 
-  pub takes-nak : Carried bytes n authenticate_nak i info → Asks c p (pap_handle_of c p bytes)
+  pub takes_nak : Carried bytes n authenticate_nak i info → Asks c p (pap_handle_of c p bytes)
   unfolding pap_act_of
-  takes-nak k = rw (by_code c p k, s) (asks c p)
+  takes_nak k = rw (by_code c p k, s) (asks c p)
 
   -- any other code is ignored
   pub ignores : {code : ℕ} → Carried bytes n code i info → (code ≡ authenticate_ack → ⊥) → (code ≡ authenticate_nak → ⊥) → pap_handle_of c p bytes ≡ pap_reacts p []
@@ -77,5 +77,5 @@ module _ (c : Credentials) (p : Pap) (s : is_pap_sent p.state ≡ true) {bytes m
   pub ack-opens : Answered bytes authenticate_ack i message → pap_handle_of c p bytes ≡ pap_reacts (with_pap_state p Opened) []
   ack-opens a = takes-ack c p s a.carried
 
-  pub nak-asks : Answered bytes authenticate_nak i message → Asks c p (pap_handle_of c p bytes)
-  nak-asks a = takes-nak c p s a.carried
+  pub nak_asks : Answered bytes authenticate_nak i message → Asks c p (pap_handle_of c p bytes)
+  nak_asks a = takes_nak c p s a.carried

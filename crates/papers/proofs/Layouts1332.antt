@@ -32,16 +32,16 @@ module _ {t a : ℕ} {o : Option} (x : Address t o a) where
   in_bytes : o.value ≡ be_bytes 4 a
   in_bytes = x.value ∙ sym (four_octets a x.small)
 
-  address-length : length o.value ≡ 4
-  address-length = rw in_bytes (length_be 4 a)
+  address_length : length o.value ≡ 4
+  address_length = rw in_bytes (length_be 4 a)
 
-  address-number : be_of o.value ≡ a
-  address-number = rw in_bytes (be_round 4 a x.small)
+  address_number : be_of o.value ≡ a
+  address_number = rw in_bytes (be_round 4 a x.small)
 
 -- the peer's address: acked, and stored
 pub judge_address : (p : Ipv4cp) {o : Option} {a : ℕ} → IpAddress o a
     → judge_ipv4cp p o.type o.value ≡ record { verdict = Ack; ipv4cp = with_peer p a }
-judge_address p x = rw (address-length x, address-number x, x.type) refl
+judge_address p x = rw (address_length x, address_number x, x.type) refl
 
 -- an own address as a Reject drops it, or as a Nak suggests another
 abbrev pub taken_address : Bool → IpOption → ℕ → IpOption
@@ -50,24 +50,24 @@ taken_address false q a = record { address = a; is_rejected = q.is_rejected }
 
 taken_address_lem : (rej : Bool) (q : IpOption) {t a : ℕ} {o : Option} → Address t o a → ip_nacked q o.value rej ≡ taken_address rej q a
 taken_address_lem true q x = refl
-taken_address_lem false q x = rw (address-length x, address-number x) refl
+taken_address_lem false q x = rw (address_length x, address_number x) refl
 
 -- each of the three changes its own, and no other
 abbrev pub with_own : Ipv4cp → IpOption → IpOption → IpOption → Proto
 with_own p a b c = OfIpv4cp (record { peer_address = p.peer_address; address = a; dns_server_1 = b; dns_server_2 = c })
 
 module _ (rej : Bool) (p : Ipv4cp) {o : Option} {n : ℕ} where
-  pub take-ip : IpAddress o n
+  pub take_ip : IpAddress o n
       → own_nacked (OfIpv4cp p) o.type o.value rej ≡ with_own p (taken_address rej p.address n) p.dns_server_1 p.dns_server_2
   unfolding own_nacked
-  take-ip x = rw x.type (ap (λ (q : IpOption). with_own p q p.dns_server_1 p.dns_server_2) (taken_address_lem rej p.address x))
+  take_ip x = rw x.type (ap (λ (q : IpOption). with_own p q p.dns_server_1 p.dns_server_2) (taken_address_lem rej p.address x))
 
-  pub take-dns1 : PrimaryDns o n
+  pub take_dns1 : PrimaryDns o n
       → own_nacked (OfIpv4cp p) o.type o.value rej ≡ with_own p p.address (taken_address rej p.dns_server_1 n) p.dns_server_2
   unfolding own_nacked
-  take-dns1 x = rw x.type (ap (λ (q : IpOption). with_own p p.address q p.dns_server_2) (taken_address_lem rej p.dns_server_1 x))
+  take_dns1 x = rw x.type (ap (λ (q : IpOption). with_own p p.address q p.dns_server_2) (taken_address_lem rej p.dns_server_1 x))
 
-  pub take-dns2 : SecondaryDns o n
+  pub take_dns2 : SecondaryDns o n
       → own_nacked (OfIpv4cp p) o.type o.value rej ≡ with_own p p.address p.dns_server_1 (taken_address rej p.dns_server_2 n)
   unfolding own_nacked
-  take-dns2 x = rw x.type (ap (λ (q : IpOption). with_own p p.address p.dns_server_1 q) (taken_address_lem rej p.dns_server_2 x))
+  take_dns2 x = rw x.type (ap (λ (q : IpOption). with_own p p.address p.dns_server_1 q) (taken_address_lem rej p.dns_server_2 x))

@@ -39,8 +39,8 @@ module _ {o : Option} {m : ℕ} (x : AsyncMap o m) where
   map-length : length o.value ≡ 4
   map-length = rw in_bytes (length_be 4 m)
 
-  map-number : be_of o.value ≡ m
-  map-number = rw in_bytes (be_round 4 m x.small)
+  map_number : be_of o.value ≡ m
+  map_number = rw in_bytes (be_round 4 m x.small)
 
   octet : (k : ℕ) → k < 4 → get_or o.value (3 - k) 0 ≡ m / 2 ^ (8 * k) % 2 ^ 8
   octet zero h = rw x.value (omega arith)
@@ -61,11 +61,11 @@ module _ {o : Option} {m : ℕ} (x : AsyncMap o m) where
       ap (λ (y : ℕ). y / 2 ^ r % 2) (octet (b / 8) (omega arith)) ∙ e ∙ rw (shr-shr m (8 * (b / 8)) r, k) refl
 
   -- as the peer offers it: acked, and its number is the one stored
-  pub judge-map : (p : Lcp) → judge_lcp p o.type o.value ≡ judged_lcp Ack (with_remote p m)
-  judge-map p = rw (map-length, map-number, x.type) refl
+  pub judge_map : (p : Lcp) → judge_lcp p o.type o.value ≡ judged_lcp Ack (with_remote p m)
+  judge_map p = rw (map-length, map_number, x.type) refl
 
   -- as a Reject drops it, or as a Nak suggests another
   pub take-map : (rej : Bool) (p : Lcp) → own_nacked (OfLcp p) o.type o.value rej ≡ OfLcp (taken_map rej p m)
   unfolding own_nacked
   take-map true p = rw x.type refl
-  take-map false p = rw (map-length, map-number, x.type) refl
+  take-map false p = rw (map-length, map_number, x.type) refl

@@ -27,12 +27,12 @@ use Rattle.papers.proofs.Verdicts.{lcp_verdict}
 module _ (f : ℕ → List ℕ → Verdict) where
   module _ (s : List ℕ) where
     -- an option as it is sent back
-    abbrev pub answerTo : Option → Option
-    answerTo o = option_as o.type (sent_back (f o.type o.value) o.value s)
+    abbrev pub answer_to : Option → Option
+    answer_to o = option_as o.type (sent_back (f o.type o.value) o.value s)
 
     abbrev pub answers : Verdict → List Option → List Option
     answers v [] = []
-    answers v (o ∷ os) = cond (eqb (rank_of (f o.type o.value)) (rank_of v)) (answerTo o ∷ answers v os) (answers v os)
+    answers v (o ∷ os) = cond (eqb (rank_of (f o.type o.value)) (rank_of v)) (answer_to o ∷ answers v os) (answers v os)
 
   -- no option has a higher verdict
   abbrev pub Top : Verdict → List Option → Type 0

@@ -22,7 +22,7 @@ use Rattle.papers.proofs.Reading.{Readable, reads_packet, data_in, data_bytes}
 use Rattle.papers.proofs.Walked.{options_in, whole_options, is_whole}
 use Rattle.papers.proofs.Answers.{reply_whole, nacks_whole}
 use Rattle.papers.proofs.Sending.{Fits, Requests, requests}
-use Rattle.papers.proofs.Judging.{taken_up, by-nak, by-reject, takes-nak, takes-reject}
+use Rattle.papers.proofs.Judging.{taken_up, by_nak, by_reject, takes_nak, takes-reject}
 use Rattle.papers.proofs.Replying.{Replied, done_with, request-done, takes-request}
 use Rattle.papers.proofs.Fitting.{values_bytes, fits_taken, fits_asked}
 
@@ -61,20 +61,20 @@ module _ (f : OptionFsm) (n : is_closed f.state ≡ false) (h : Fits f.proto) {s
       let o : (nacks_of rej f.proto (walk_of (data_in s))).outcome ≡ Done = done_with _ f _ (rw e at d) in
       listed (sym (nacks_whole rej f.proto (walk_of (data_in s))) ∙ rw o refl)
 
-  asks-on : (rej : Bool) → Options (data_in s) (options_of s) → handle_of f s ≡ requested (after_nacked f (taken_up rej f.proto (options_of s))) []
+  asks_on : (rej : Bool) → Options (data_in s) (options_of s) → handle_of f s ≡ requested (after_nacked f (taken_up rej f.proto (options_of s))) []
       → TakenUp f rej s
-  asks-on rej l t =
+  asks_on rej l t =
       let v = values_bytes l (data_bytes (reads_packet s b r).carried b) in
       record { turn = t; asks = requests _ (next_id f.id) (omega arith) (fits_taken rej f.proto (options_of s) v h) }
 
-  pub received-nak : get_or s 2 0 ≡ configure_nak → TakenUp f false s
-  received-nak e =
+  pub received_nak : get_or s 2 0 ≡ configure_nak → TakenUp f false s
+  received_nak e =
       let k = coded e in
-      let l = whole false (by-nak f n k) in
-      asks-on false l (takes-nak f n k l)
+      let l = whole false (by_nak f n k) in
+      asks_on false l (takes_nak f n k l)
 
   pub received-reject : get_or s 2 0 ≡ configure_reject → TakenUp f true s
   received-reject e =
       let k = coded e in
-      let l = whole true (by-reject f n k) in
-      asks-on true l (takes-reject f n k l)
+      let l = whole true (by_reject f n k) in
+      asks_on true l (takes-reject f n k l)

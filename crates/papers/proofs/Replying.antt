@@ -27,7 +27,7 @@ use Rattle.options.proofs.Suggesting.{start_suggestion}
 use Rattle.papers.proofs.Packets.{Sent}
 use Rattle.papers.proofs.Verdicts.{lcp_verdict, verdict_of, judged_all}
 use Rattle.papers.proofs.Listed.{answers, Top}
-use Rattle.papers.proofs.Answers.{reply_to, reply-top, reply-options, reply-proto, reply-ack}
+use Rattle.papers.proofs.Answers.{reply_to, reply_top, reply_options, reply_proto, reply_ack}
 use Rattle.papers.proofs.Sending.{number_for, number_kind, sent_by_lem}
 use Rattle.papers.proofs.Judging.{by_code, data_of}
 
@@ -87,27 +87,27 @@ module _ (f : OptionFsm) (i : ℕ) (b : i < 256) {request : List ℕ} {os : List
         info = content_of r.packet;
         bytes = reply_bytes i r;
         packet = subst (λ (m : ℕ). Sent (reply_bytes i r) m (answer_code r.verdict) i (content_of r.packet)) (number_kind r.proto f.proto fair.kind) x;
-        listed = rw (v, start_suggestion f.proto) at (reply-options q l d);
-        top = rw v at (reply-top q l d);
-        acked = reply-ack q l d;
-        proto = y ∙ reply-proto q l d;
+        listed = rw (v, start_suggestion f.proto) at (reply_options q l d);
+        top = rw v at (reply_top q l d);
+        acked = reply_ack q l d;
+        proto = y ∙ reply_proto q l d;
         sent = rw y z;
       } in
       cond_by (Replied f i request os) (is_opened f.state) (λ o. made _ refl (rw o refl)) (λ o. made _ refl (rw o refl))
 
 module _ (f : OptionFsm) (n : is_closed f.state ≡ false) {bytes request : List ℕ} {p i : ℕ} (k : Carried bytes p configure_request i request) where
-  pub by-request : handle_of f bytes ≡ req_with f i (reply_to (start_of f.proto) request)
+  pub by_request : handle_of f bytes ≡ req_with f i (reply_to (start_of f.proto) request)
   unfolding act_of req_of
-  by-request =
+  by_request =
       let h : 6 ≤ length (packet_of p configure_request i request) = omega (arith, length_packet p configure_request i request) in
       by_code f k ∙ rw (n, le-ltb _ _ h, data_of p configure_request i request) refl
 
   pub request-done : is_done (handle_of f bytes).outcome ≡ true → (reply_to (start_of f.proto) request).outcome ≡ Done
   unfolding req_with
-  request-done d = done_with (reply_to (start_of f.proto) request).outcome f _ (rw by-request at d)
+  request-done d = done_with (reply_to (start_of f.proto) request).outcome f _ (rw by_request at d)
 
   pub takes-request : {os : List Option} → Options request os → is_done (handle_of f bytes).outcome ≡ true → Replied f i request os (handle_of f bytes)
   unfolding req_with
   takes-request l d =
       let e = request-done d in
-      rw (by-request, e) (replied f i k.packet.id_octet l e)
+      rw (by_request, e) (replied f i k.packet.id_octet l e)

@@ -28,7 +28,7 @@ use Rattle.options.specs.Ipv4cp.{fresh_ipv4cp}
 use Rattle.options.specs.Lcp.{with_auth, suggestion_lcp, judge_lcp, judged_lcp}
 use Rattle.options.specs.Proto.{judge_of}
 use Rattle.options.proofs.Suggesting.{judge_suggestion}
-use Rattle.papers.proofs.Layouts1662.{judge-map}
+use Rattle.papers.proofs.Layouts1662.{judge_map}
 use Rattle.papers.proofs.Layouts1332.{judge_address}
 
 -- ---- the verdict on an option, which no earlier option changes
@@ -100,7 +100,7 @@ pub other_nacked : (p : Lcp) {o : Option} {n : ℕ} {needed : List ℕ} → Auth
 other_nacked p {o} x k = lcp_verdict_lem p o (judge_other p x k)
 
 pub map_acked : (p : Lcp) {o : Option} {m : ℕ} → AsyncMap o m → verdict_of (OfLcp p) o.type o.value ≡ Ack
-map_acked p {o} x = lcp_verdict_lem p o (judge-map x p)
+map_acked p {o} x = lcp_verdict_lem p o (judge_map x p)
 
 pub address_acked : {o : Option} {a : ℕ} → IpAddress o a → ipv4cp_verdict o.type o.value ≡ Ack
 address_acked {o} x =
@@ -139,5 +139,5 @@ map_kept p (o ∷ os) n =
 -- the last map of a request is the one stored
 pub stored-map : (p : Lcp) (before : List Option) {o : Option} {m : ℕ} (after : List Option) → AsyncMap o m
     → Each (λ x. x.type ≡ 2 → ⊥) after → (judged_lcps p (before ++ (o ∷ after))).asyncmap_remote ≡ m
-stored-map p [] {o} after x n = map_kept _ after n ∙ ap (λ (j : LcpJudged). j.lcp.asyncmap_remote) (judge-map x p)
+stored-map p [] {o} after x n = map_kept _ after n ∙ ap (λ (j : LcpJudged). j.lcp.asyncmap_remote) (judge_map x p)
 stored-map p (b ∷ before) after x n = stored-map (judge_lcp p b.type b.value).lcp before after x n

@@ -20,7 +20,7 @@ use Rattle.options.specs.Wire.{protocol_in}
 use Rattle.negotiation.specs.Replies.{max_replies, joined}
 use Rattle.negotiation.specs.Automaton.{is_closed, is_opened}
 use Rattle.negotiation.specs.Auth.{is_auth_opened}
-use Rattle.negotiation.proofs.Auths.{auth-sends, auth-opened-sends}
+use Rattle.negotiation.proofs.Auths.{auth_sends, auth_opened_sends}
 use Rattle.negotiation.proofs.Joining.{join_replies}
 use Rattle.negotiation.proofs.Sends.{Sends, sends_none, sends_both, handle-sends, reject-sends, opened-sends}
 use Rattle.phases.specs.declared.ppp.Phase.{Phase}
@@ -34,11 +34,11 @@ use Rattle.phases.proofs.Resting.{rests_still}
 -- ---- a turn, by its outcome
 
 module _ (p : Ppp) (pkt : List ℕ) where
-  pub turn-refused : {why : Refusal} → (received_of p pkt).outcome ≡ Refused why → turn_of p pkt ≡ turn_refused p why
+  pub turn_refused_lem : {why : Refusal} → (received_of p pkt).outcome ≡ Refused why → turn_of p pkt ≡ turn_refused p why
   unfolding turn_of
-  turn-refused e = rw e refl
+  turn_refused_lem e = rw e refl
 
-  pub turn-done : (received_of p pkt).outcome ≡ Done
+  pub turn_done : (received_of p pkt).outcome ≡ Done
       → turn_of p pkt
       ≡ record {
         outcome = Done;
@@ -47,17 +47,17 @@ module _ (p : Ppp) (pkt : List ℕ) where
         sent = (received_of p pkt).sent ++ (phase_of (received_of p pkt).ppp).sent;
       }
   unfolding turn_of
-  turn-done e = rw e refl
+  turn_done e = rw e refl
 
 -- an IPv4 packet changes nothing, and a turn with it is a phase step alone
 module _ (p : Ppp) (pkt : List ℕ) (h : 2 ≤ length pkt) (e : protocol_in pkt ≡ 0x0021) where
-  pub received-ip : received_of p pkt ≡ turn_to p []
+  pub received_ip_lem : received_of p pkt ≡ turn_to p []
   unfolding received_of
-  received-ip = rw (le-ltb (length pkt) 2 h, e) refl
+  received_ip_lem = rw (le-ltb (length pkt) 2 h, e) refl
 
-  pub turn-ip : turn_of p pkt ≡ poll_of p
+  pub turn_ip : turn_of p pkt ≡ poll_of p
   unfolding turn_of
-  turn-ip = rw received-ip refl
+  turn_ip = rw received_ip_lem refl
 
 -- ---- what a call sends
 
@@ -68,14 +68,14 @@ received_sends p pkt =
     let n = protocol_in pkt in
     cond_all P (ltb (length pkt) 2) (sends_none 2)
     (cond_all P (eqb n 0xC021) (handle-sends (lcp_in p.lcp) pkt)
-    (cond_all P (eqb n 0xC023) (auth-sends p.auth pkt)
+    (cond_all P (eqb n 0xC023) (auth_sends p.auth pkt)
     (cond_all P (eqb n 0x0021) (sends_none 2)
     (cond_all P (eqb n 0x8021) (handle-sends (ipv4cp_in p.ipv4cp) pkt)
     (reject-sends (lcp_in p.lcp) pkt)))))
 
 by_auth_sends : (a : AuthType) (p : Ppp) → Sends 1 (by_auth a p).sent
 by_auth_sends None p = opened-sends (ipv4cp_in p.ipv4cp)
-by_auth_sends auth.Pap p = auth-opened-sends p.auth
+by_auth_sends auth.Pap p = auth_opened_sends p.auth
 
 by_phase_sends : (f : Phase) (p : Ppp) → Sends 1 (by_phase f p).sent
 unfolding establish_of auth_of network_of
@@ -106,20 +106,20 @@ turn_sends p pkt =
 -- ---- a turn as the code puts it together
 
 module _ (p : Ppp) (pkt : List ℕ) {t : Turned} (et : t ≡ as_turned (received_of p pkt)) where
-  pub turns-refused : {why : Refusal} {r : Turned} → t.outcome ≡ Refused why → r ≡ as_turned (turn_refused p why)
+  pub turns_refused : {why : Refusal} {r : Turned} → t.outcome ≡ Refused why → r ≡ as_turned (turn_refused p why)
       → Turns (turn_of p pkt) r.outcome r.echoed r.ppp r.replies
-  turns-refused eo er =
-      rw (turn-refused p pkt (sym (ap (λ (x : Turned). x.outcome) et) ∙ eo), er) (record { outcome = refl; echoed = refl; ppp = refl; replies = refl })
+  turns_refused eo er =
+      rw (turn_refused_lem p pkt (sym (ap (λ (x : Turned). x.outcome) et) ∙ eo), er) (record { outcome = refl; echoed = refl; ppp = refl; replies = refl })
 
-  pub turns-rested : t.outcome ≡ Done → rests_of t.ppp ≡ true → Turns (turn_of p pkt) t.outcome t.echoed t.ppp t.replies
-  turns-rested eo e =
+  pub turns_rested : t.outcome ≡ Done → rests_of t.ppp ≡ true → Turns (turn_of p pkt) t.outcome t.echoed t.ppp t.replies
+  turns_rested eo e =
       let s = rests_still (received_of p pkt).ppp (sym (ap (λ (x : Turned). rests_of x.ppp) et) ∙ e) in
       let o = sym (ap (λ (x : Turned). x.outcome) et) ∙ eo in
-      rw (turn-done p pkt o, et, s, append-nil) (record { outcome = o; echoed = refl; ppp = refl; replies = refl })
+      rw (turn_done p pkt o, et, s, append-nil) (record { outcome = o; echoed = refl; ppp = refl; replies = refl })
 
   pub turns-done : {s : Stepped} {rs : Replies} → t.outcome ≡ Done → s ≡ stepped_as (phase_of t.ppp) → rs ≡ joined t.replies s.replies
       → Turns (turn_of p pkt) Done t.echoed s.ppp rs
   turns-done {s} eo es er =
       let e : s ≡ stepped_as (phase_of (received_of p pkt).ppp) = es ∙ ap (λ (x : Turned). stepped_as (phase_of x.ppp)) et in
-      rw (turn-done p pkt (sym (ap (λ (x : Turned). x.outcome) et) ∙ eo), er, e, et)
+      rw (turn_done p pkt (sym (ap (λ (x : Turned). x.outcome) et) ∙ eo), er, e, et)
       (record { outcome = refl; echoed = refl; ppp = refl; replies = join_replies (received_of p pkt).sent _ (omega (arith, (received_sends p pkt).few)) (phase_sends _).few })

@@ -7,7 +7,7 @@ use borrow.Author.Tests.{not-true}
 use Rattle.laws.proofs.Cases.{both}
 use Rattle.negotiation.specs.Automaton.{is_closed, is_opened}
 use Rattle.negotiation.specs.Auth.{is_auth_closed, is_auth_opened}
-use Rattle.negotiation.proofs.Auths.{closes-same}
+use Rattle.negotiation.proofs.Auths.{closes_same}
 use Rattle.negotiation.proofs.StateTable.{is_closed_lem}
 use Rattle.phases.specs.declared.ppp.Phase.{Phase}
 use Rattle.phases.specs.declared.ppp.Phase.TheVariants.{Dead, Establish, Auth, Network, Open}
@@ -18,7 +18,7 @@ closes_ipv4cp_lem : (p : Ppp) → is_closed p.ipv4cp.state ≡ true → closes_i
 closes_ipv4cp_lem p e i = with_ipv4cp p (record { id = p.ipv4cp.id; state = sym (is_closed_lem p.ipv4cp.state e) i; proto = p.ipv4cp.proto })
 
 closes_auth_lem : (p : Ppp) → is_auth_closed p.auth ≡ true → closes_auth p ≡ p
-closes_auth_lem p e i = with_auth p (closes-same p.auth e i)
+closes_auth_lem p e i = with_auth p (closes_same p.auth e i)
 
 -- the phase is an argument of its own, to be taken by cases
 still_in : (f : Phase) (p : Ppp) → rests_in f p.lcp.state (is_auth_closed p.auth) (is_auth_opened p.auth) p.ipv4cp.state ≡ true → dies_of p ≡ false

@@ -9,7 +9,7 @@ use lib.Dec.{ltb, eqb}
 use lib.ListN.{length}
 use Rattle.laws.proofs.Cases.{apart, by_test, cond_by, cond_all}
 use Rattle.options.specs.declared.lcp.AuthType.{AuthType}
-use Rattle.options.specs.declared.lcp.AuthType.TheVariants as authType
+use Rattle.options.specs.declared.lcp.AuthType.TheVariants as auth_type
 use Rattle.negotiation.specs.declared.auth.Auth as authentication
 use Rattle.phases.specs.declared.ppp.LcpFsm.{LcpFsm}
 use Rattle.phases.specs.declared.ppp.Phase.{Phase}
@@ -26,7 +26,7 @@ use Rattle.negotiation.specs.Auth.{is_auth_closed, is_auth_sent, is_auth_opened}
 use Rattle.negotiation.proofs.Auths as auth
 use Rattle.negotiation.proofs.Auths.{AuthNear}
 use Rattle.phases.specs.Sound.{is_establish, Sound, Calm}
-use Rattle.negotiation.proofs.Steps.{Near, closed_shut, stays_closed, handle_near, reject-near, opened_asks}
+use Rattle.negotiation.proofs.Steps.{Near, closed_shut, stays_closed, handle_near, reject_near, opened_asks}
 use Rattle.phases.proofs.Resting.{rests_still}
 
 -- ---- one phase's clause gives all
@@ -123,7 +123,7 @@ received-heard p pkt =
     (cond_all P (eqb n 0xC023) (record { phase = refl; opening = refl; lcp = λ _. refl; auth = auth.handle_near p.auth pkt; ipv4cp = λ _. refl })
     (cond_all P (eqb n 0x0021) (heard_none p)
     (cond_all P (eqb n 0x8021) (record { phase = refl; opening = refl; lcp = λ _. refl; auth = auth.near_same p.auth; ipv4cp = handle_near (ipv4cp_in p.ipv4cp) pkt })
-    (heard-lcp p _ (reject-near (lcp_in p.lcp) pkt))))))
+    (heard-lcp p _ (reject_near (lcp_in p.lcp) pkt))))))
 
 -- ---- what a phase step finds
 
@@ -167,34 +167,34 @@ asked_waits : (p : Ppp) → is_auth_sent p.auth ≡ false → Own Network (opens
 asked_waits p a = let e = opened_asks (ipv4cp_in p.ipv4cp) in (ap is_closed e, ap is_opened e, a)
 
 auth_rests : (p : Ppp) (a : AuthType) → p.opening ≡ false → p.ipv4cp.state ≡ Closed → is_auth_closed p.auth ≡ true → Rests (settled (by_auth a p).ppp)
-auth_rests p authType.None o i a = settled_rests (opens_ipv4cp p).ppp o alive (λ _. asked_waits p (auth.closed-unsent p.auth a))
-auth_rests p authType.Pap o i a = settled_rests (opens_auth p).ppp o alive (λ _. (auth.opens-sent p.auth, i))
+auth_rests p auth_type.None o i a = settled_rests (opens_ipv4cp p).ppp o alive (λ _. asked_waits p (auth.closed_unsent p.auth a))
+auth_rests p auth_type.Pap o i a = settled_rests (opens_auth p).ppp o alive (λ _. (auth.opens-sent p.auth, i))
 
 -- a packet, then a phase step; the phase is an argument of its own, to be taken by cases
 module _ (p q : Ppp) (h : Heard p q) where
-  step-rests : (f : Phase) → Sound (with_phase p f) → Rests (phase_of (with_phase q f)).ppp
+  step_rests : (f : Phase) → Sound (with_phase p f) → Rests (phase_of (with_phase q f)).ppp
   unfolding phase_of establish_of auth_of network_of
-  step-rests Dead s =
+  step_rests Dead s =
       settled_rests (with_phase q Dead) (h.opening ∙ s.opens) (λ _. h.lcp (closed_shut p.lcp.state s.closed) ∙ s.closed) (λ _. tt)
-  step-rests Establish s =
+  step_rests Establish s =
       let P : Step → Type 0 = λ t. Rests (settled t.ppp) in
       let r = with_phase q Establish in
       let shut = by_test p.opening (λ o. closed_shut p.lcp.state (s.closed ∙ o)) (λ o. (s.establish refl o).0) in
       cond_by P (is_closed q.lcp.state)
-      (λ _. settled_rests (closes_ipv4cp (closes_auth (opens_lcp r).ppp)) refl alive (λ _. (ap is_opened (opened_asks (lcp_in q.lcp)), refl, auth.closes-closed q.auth)))
+      (λ _. settled_rests (closes_ipv4cp (closes_auth (opens_lcp r).ppp)) refl alive (λ _. (ap is_opened (opened_asks (lcp_in q.lcp)), refl, auth.closes_closed q.auth)))
       (λ c. let o : p.opening ≡ false = s.opens ∙ sym (h.lcp shut) ∙ c in
       let e = s.establish refl o in
       cond_by P (is_opened q.lcp.state)
       (λ _. auth_rests r q.lcp.proto.auth (h.opening ∙ o) (stays_closed e.1 h.ipv4cp) (h.auth.closed e.2))
-      (λ n. settled_rests (closes_ipv4cp (closes_auth r)) (h.opening ∙ o) alive (λ _. (n, refl, auth.closes-closed q.auth))))
-  step-rests Auth s =
+      (λ n. settled_rests (closes_ipv4cp (closes_auth r)) (h.opening ∙ o) alive (λ _. (n, refl, auth.closes_closed q.auth))))
+  step_rests Auth s =
       let P : Step → Type 0 = λ t. Rests (settled t.ppp) in
       let r = with_phase q Auth in
       let o = h.opening ∙ s.opens in
       cond_by P (is_auth_opened q.auth)
-      (λ a. settled_rests (opens_ipv4cp r).ppp o alive (λ _. asked_waits r (auth.opened-unsent q.auth a)))
+      (λ a. settled_rests (opens_ipv4cp r).ppp o alive (λ _. asked_waits r (auth.opened_unsent q.auth a)))
       (λ a. settled_rests (closes_ipv4cp r) o alive (λ _. (h.auth.sent (s.auth refl).0 a, refl)))
-  step-rests Network s =
+  step_rests Network s =
       let r = with_phase q Network in
       let o = h.opening ∙ s.opens in
       let n = s.network refl in
@@ -202,10 +202,10 @@ module _ (p q : Ppp) (h : Heard p q) where
       cond_by (λ (t : Ppp). Rests (settled t)) (is_opened q.ipv4cp.state)
       (λ _. settled_rests (with_phase q Open) o alive (λ _. unsent))
       (λ m. settled_rests r o alive (λ _. (h.ipv4cp n.1 ∙ n.0, m, unsent)))
-  step-rests Open s = settled_rests (with_phase q Open) (h.opening ∙ s.opens) alive (λ _. h.auth.unsent (s.past (inr refl)))
+  step_rests Open s = settled_rests (with_phase q Open) (h.opening ∙ s.opens) alive (λ _. h.auth.unsent (s.past (inr refl)))
 
-  heard-rests : Sound p → Rests (phase_of q).ppp
-  heard-rests s = subst (λ f. Rests (phase_of (with_phase q f)).ppp) (sym h.phase) (step-rests p.phase s)
+  heard_rests : Sound p → Rests (phase_of q).ppp
+  heard_rests s = subst (λ f. Rests (phase_of (with_phase q f)).ppp) (sym h.phase) (step_rests p.phase s)
 
 -- ---- where a phase step does nothing
 
@@ -215,7 +215,7 @@ step_none Dead p s o = cond_all (λ (r : Ppp). step_to r [] ≡ step_to (with_ph
 step_none Establish p s o =
     let e = s.establish refl o in
     rests_still (with_phase p Establish) (rw (s.closed ∙ o, e.0, e.2, ap is_closed e.1) refl)
-step_none Auth p s o = let e = s.auth refl in rests_still (with_phase p Auth) (rw (auth.sent-unopened p.auth e.0, ap is_closed e.1, s.closed ∙ o) refl)
+step_none Auth p s o = let e = s.auth refl in rests_still (with_phase p Auth) (rw (auth.sent_unopened p.auth e.0, ap is_closed e.1, s.closed ∙ o) refl)
 step_none Network p s o = rests_still (with_phase p Network) (rw ((s.network refl).1, s.closed ∙ o) refl)
 step_none Open p s o = rests_still (with_phase p Open) (rw (s.closed ∙ o) refl)
 
@@ -225,22 +225,22 @@ calm {p} s o = ap (λ (t : Step). turn_to t.ppp t.sent) (step_none p.phase p s o
 -- ---- poll and a received packet
 
 pub sound_poll : {p : Ppp} → Sound p → Sound (poll_of p).ppp
-sound_poll {p} s = (heard-rests p p (heard_none p) s).sound
+sound_poll {p} s = (heard_rests p p (heard_none p) s).sound
 
 pub sound_turn : {p : Ppp} (pkt : List ℕ) → Sound p → Sound (turn_of p pkt).ppp
 unfolding turn_of
 sound_turn {p} pkt s =
-    cond_all (λ (t : Turn). Sound t.ppp) (is_done (received_of p pkt).outcome) (heard-rests p _ (received-heard p pkt) s).sound s
+    cond_all (λ (t : Turn). Sound t.ppp) (is_done (received_of p pkt).outcome) (heard_rests p _ (received-heard p pkt) s).sound s
 
 -- a phase step right behind a phase step does nothing
 pub calm_after : {p : Ppp} → Sound p → Calm (phase_of p).ppp
-calm_after {p} s = let r = heard-rests p p (heard_none p) s in calm r.sound r.opened
+calm_after {p} s = let r = heard_rests p p (heard_none p) s in calm r.sound r.opened
 
 -- nor does one behind a packet that was not refused
 pub calm_after_turn : {p : Ppp} (pkt : List ℕ) → Sound p → (turn_of p pkt).outcome ≡ Done → Calm (turn_of p pkt).ppp
 unfolding turn_of
 calm_after_turn {p} pkt s =
     let t = received_of p pkt in
-    let r = heard-rests p t.ppp (received-heard p pkt) s in
+    let r = heard_rests p t.ppp (received-heard p pkt) s in
     cond_by (λ (x : Turn). x.outcome ≡ Done → Calm x.ppp) (is_done t.outcome) (λ _ _. calm r.sound r.opened)
     (λ e d. absurd (true≢false (sym (ap is_done d) ∙ e)))

@@ -21,14 +21,14 @@ use Rattle.negotiation.specs.declared.option_fsm.Handled.{Handled}
 use Rattle.negotiation.specs.declared.auth.Auth.{Auth}
 use Rattle.negotiation.specs.declared.auth.AuthHandled.{AuthHandled}
 use Rattle.negotiation.specs.declared.replies.Replies.{Replies}
-use Rattle.negotiation.proofs.Proper.{proper-handle}
+use Rattle.negotiation.proofs.Proper.{proper_handle}
 use Rattle.phases.specs.Phases.{received_of, turn_of, Turns}
 use Rattle.phases.specs.declared.ppp.Ppp.{Ppp}
-use Rattle.phases.proofs.Phasing.{turn-refused, turn-done}
+use Rattle.phases.proofs.Phasing.{turn_refused_lem, turn_done}
 use Rattle.refusals.specs.Packets.{Answered, Unchanged, turn_rows, reject_rows, pap_rows}
 use Rattle.refusals.proofs.Rows.{First}
 use Rattle.refusals.proofs.Causes.{PapBy, pap_by}
-use Rattle.refusals.proofs.Packets.{refusal_some, packet-fine, packet-refused}
+use Rattle.refusals.proofs.Packets.{refusal_some, packet_fine, packet_refused}
 
 count_of : (ps : List (List ℕ)) → (replies_of ps).count ≡ length ps
 unfolding replies_of
@@ -38,17 +38,17 @@ module _ (p : Ppp) (pkt : List ℕ) {o : Outcome} {e : Bool} {p' : Ppp} {rs : Re
   abbrev after : Answered Ppp
   after = record { told = outcome_values o; kept = p'; echoed = e; count = rs.count }
 
-  pub turn-first : First (outcome_number o) after (turn_rows p pkt)
-  turn-first = go (received_of p pkt).outcome refl
+  pub turn_first : First (outcome_number o) after (turn_rows p pkt)
+  turn_first = go (received_of p pkt).outcome refl
     where
       go : (x : Outcome) → (received_of p pkt).outcome ≡ x → First (outcome_number o) after (turn_rows p pkt)
       go Done d =
-          let n : outcome_number o ≡ 0 = ap outcome_number c.outcome ∙ rw (turn-done p pkt d) refl in
-          packet-fine (λ c. c) (λ t. t.told) (Unchanged p) p pkt [] after (λ _ x. (x, ap outcome_number d)) n
+          let n : outcome_number o ≡ 0 = ap outcome_number c.outcome ∙ rw (turn_done p pkt d) refl in
+          packet_fine (λ c. c) (λ t. t.told) (Unchanged p) p pkt [] after (λ _ x. (x, ap outcome_number d)) n
       go (Refused why) d =
-          let t = turn-refused p pkt d in
+          let t = turn_refused_lem p pkt d in
           let n : outcome_number o ≡ number_of why = ap outcome_number c.outcome ∙ rw t refl in
-          packet-refused (λ c. c) (λ t. t.told) (Unchanged p) p pkt [] after (λ _ x. x) (λ _ x. x)
+          packet_refused (λ c. c) (λ t. t.told) (Unchanged p) p pkt [] after (λ _ x. x) (λ _ x. x)
           (c.ppp ∙ rw t refl, c.echoed ∙ rw t refl, ap (λ (r : Replies). r.count) c.replies ∙ count_of _ ∙ rw t refl)
           (ap outcome_values c.outcome ∙ rw (t, d) refl)
           (outcome_number o) (ap outcome_number d ∙ rw n refl) (λ z. refusal_some why (rw n at z))
@@ -58,7 +58,7 @@ pub handle_left : (f : OptionFsm) (pkt : List ℕ) {h : Handled} → h ≡ handl
     → Unchanged f (record { told = outcome_values h.outcome; kept = h.fsm; echoed = h.echoed; count = h.replies.count })
 handle_left f pkt {h} e z =
     let t = handle_of f pkt in
-    let k = (proper-handle f pkt).left (not_done t.outcome (rw (ap (λ (h : Handled). h.outcome) e) at z)) in
+    let k = (proper_handle f pkt).left (not_done t.outcome (rw (ap (λ (h : Handled). h.outcome) e) at z)) in
     rw e (k.0, k.2, count_of t.sent ∙ ap length k.1)
   where
     not_done : (o : Outcome) → (outcome_number o ≡ 0 → ⊥) → is_done o ≡ false

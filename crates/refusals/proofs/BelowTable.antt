@@ -18,9 +18,9 @@ use Rattle.phases.specs.declared.ppp.Ppp.{Ppp}
 use Rattle.refusals.specs.Rows.{Exactly}
 use Rattle.refusals.specs.Packets.{Unchanged, turn_rows, reject_rows, pap_rows}
 use Rattle.refusals.specs.Table.{empty_ppp, new_rows, open_rows}
-use Rattle.refusals.proofs.Rows.{first-exactly}
+use Rattle.refusals.proofs.Rows.{first_exactly}
 use Rattle.refusals.proofs.Calls.{new_first, open_first}
-use Rattle.refusals.proofs.Below.{turn-first, handle_left, reject_first, pap-first}
+use Rattle.refusals.proofs.Below.{turn_first, handle_left, reject_first, pap-first}
 
 -- each call as its contract has it
 pub record BelowHolds : Type 0 where
@@ -42,10 +42,10 @@ pub record BelowHolds : Type 0 where
 pub exactly_below : BelowHolds
 exactly_below =
     record {
-      new = λ name password c. first-exactly _ _ (new_rows name password empty_ppp) (new_first name password empty_ppp (ap outcome_number c.outcome) (λ e. c.ppp ∙ e)) refl;
-      «open» = λ p c. first-exactly _ _ (open_rows p.phase p) (open_first p p (ap outcome_number c.outcome) (λ e. c.ppp ∙ e)) refl;
-      turn = λ p pkt c. first-exactly _ _ (turn_rows p pkt) (turn-first p pkt c) refl;
+      new = λ name password c. first_exactly _ _ (new_rows name password empty_ppp) (new_first name password empty_ppp (ap outcome_number c.outcome) (λ e. c.ppp ∙ e)) refl;
+      «open» = λ p c. first_exactly _ _ (open_rows p.phase p) (open_first p p (ap outcome_number c.outcome) (λ e. c.ppp ∙ e)) refl;
+      turn = λ p pkt c. first_exactly _ _ (turn_rows p pkt) (turn_first p pkt c) refl;
       handle = λ f pkt e z. handle_left f pkt e z;
-      reject = λ f pkt e. first-exactly _ _ (reject_rows f pkt) (reject_first f pkt e) refl;
-      pap = λ a pkt e. first-exactly _ _ (pap_rows a pkt) (pap-first a pkt e) refl;
+      reject = λ f pkt e. first_exactly _ _ (reject_rows f pkt) (reject_first f pkt e) refl;
+      pap = λ a pkt e. first_exactly _ _ (pap_rows a pkt) (pap-first a pkt e) refl;
     }

@@ -28,7 +28,7 @@ use Rattle.options.specs.declared.refusal.Outcome.{Outcome}
 use Rattle.options.specs.declared.refusal.Outcome.TheVariants.{Done, Refused}
 use Rattle.options.specs.declared.refusal.Refusal.{Refusal}
 use Rattle.options.specs.declared.refusal.Refusal.TheVariants.{OptionCut, OptionLong, OptionsMany}
-use Rattle.options.proofs.Replying.{listed-lower, listed-long, listed-higher, listed-many, listed_more}
+use Rattle.options.proofs.Replying.{listed_lower, listed_long, listed_higher, listed_many, listed_more}
 use Rattle.options.proofs.Suggesting.{suggestion_short}
 use Rattle.options.proofs.Walks.{walk_done, walk_cut, walk_opt}
 use Rattle.refusals.specs.Packets.{Which, lcp, ipv4cp, verdict_for, size_back, Cut, Whole, Fault, Broken}
@@ -93,23 +93,23 @@ module _ {w : Which} {top listed : ℕ} {r : Reply} (i : At w top listed r) (c :
   step-lower : verdict_for w c d < top → At w top listed (step_of r c d)
   unfolding step_of verdict value
   step-lower h =
-      rw (listed-lower r _ verdict c value (omega (arith, ranked, i.rank)))
+      rw (listed_lower r _ verdict c value (omega (arith, ranked, i.rank)))
       (record { done = i.done; kind = kinded; rank = i.rank; count = i.count })
 
   step-long : top ≤ verdict_for w c d → 4 < size_back (verdict_for w c d) d → (step_of r c d).outcome ≡ Refused OptionLong
   unfolding step_of verdict value
-  step-long h k = rw (listed-long r _ verdict c value (omega (arith, ranked, i.rank)) (long k)) refl
+  step-long h k = rw (listed_long r _ verdict c value (omega (arith, ranked, i.rank)) (long k)) refl
 
   step-higher : top < verdict_for w c d → size_back (verdict_for w c d) d ≤ 4 → At w (verdict_for w c d) 1 (step_of r c d)
   unfolding step_of verdict value
   step-higher h k =
-      rw (listed-higher r _ verdict c value (omega (arith, ranked, i.rank)) (short k))
+      rw (listed_higher r _ verdict c value (omega (arith, ranked, i.rank)) (short k))
       (record { done = refl; kind = kinded; rank = ranked; count = refl })
 
   step-many : top ≡ verdict_for w c d → size_back (verdict_for w c d) d ≤ 4 → 6 ≤ listed → (step_of r c d).outcome ≡ Refused OptionsMany
   unfolding step_of verdict value
   step-many h k m =
-      rw (listed-many r _ verdict c value (i.rank ∙ h ∙ sym ranked) (short k) (omega (arith, i.count))) refl
+      rw (listed_many r _ verdict c value (i.rank ∙ h ∙ sym ranked) (short k) (omega (arith, i.count))) refl
 
   step-another : top ≡ verdict_for w c d → size_back (verdict_for w c d) d ≤ 4 → listed < 6 → At w top (listed + 1) (step_of r c d)
   unfolding step_of verdict value
@@ -170,18 +170,18 @@ reply_ended r at s h = rw (walk_done at s h) refl
 
 -- the ways on from a reply r with the options s to come
 module _ (r : Reply) (at : ℕ) {s : List ℕ} where
-  reply-cut : Cut s → (reply_of r (walk_from at s)).outcome ≡ Refused (OptionCut at)
+  reply_cut : Cut s → (reply_of r (walk_from at s)).outcome ≡ Refused (OptionCut at)
   unfolding reply_of
-  reply-cut k = rw (cut_walk at s k) refl
+  reply_cut k = rw (cut_walk at s k) refl
 
   module _ {c : ℕ} {d rest : List ℕ} (k : Whole s c d rest) where
-    reply-refused : {why : Refusal} → (step_of r c d).outcome ≡ Refused why → (reply_of r (walk_from at s)).outcome ≡ Refused why
+    reply_refused : {why : Refusal} → (step_of r c d).outcome ≡ Refused why → (reply_of r (walk_from at s)).outcome ≡ Refused why
     unfolding reply_of
-    reply-refused e = rw (whole_walk at k, e) refl
+    reply_refused e = rw (whole_walk at k, e) refl
 
-    reply-on : (step_of r c d).outcome ≡ Done → reply_of r (walk_from at s) ≡ reply_of (step_of r c d) (walk_from (at + get_or s 1 0) rest)
+    reply_on : (step_of r c d).outcome ≡ Done → reply_of r (walk_from at s) ≡ reply_of (step_of r c d) (walk_from (at + get_or s 1 0) rest)
     unfolding reply_of
-    reply-on e = rw (whole_walk at k, e) refl
+    reply_on e = rw (whole_walk at k, e) refl
 
 -- what a request is refused with
 abbrev refused_with : Reply → ℕ → List ℕ → ℕ
@@ -189,7 +189,7 @@ refused_with r at s = outcome_number (reply_of r (walk_from at s)).outcome
 
 on_number : (r : Reply) (at : ℕ) {s : List ℕ} {c : ℕ} {d rest : List ℕ} (k : Whole s c d rest) → (step_of r c d).outcome ≡ Done
     → refused_with r at s ≡ refused_with (step_of r c d) (at + get_or s 1 0) rest
-on_number r at k e = ap (λ (q : Reply). outcome_number q.outcome) (reply-on r at k e)
+on_number r at k e = ap (λ (q : Reply). outcome_number q.outcome) (reply_on r at k e)
 
 -- the refusal of the options s, of which the first is at offset at
 data Stops (s : List ℕ) (at : ℕ) : ℕ → Outcome → Type 0 where
@@ -221,15 +221,15 @@ stops_later w at_many = at_many
 
 fault_stops : {w : Which} {top listed n : ℕ} {s : List ℕ} → Fault w top listed s n → (r : Reply) (at : ℕ) → At w top listed r
     → Stops s at n (reply_of r (walk_from at s)).outcome
-fault_stops (Fault.cut k) r at i = rw (reply-cut r at k) (at_cut (Broken.now k) (sym (add-zero at)))
-fault_stops (Fault.long c d rest k h l) r at i = rw (reply-refused r at k (step-long i c d h l)) at_long
-fault_stops (Fault.many c d rest k h l m) r at i = rw (reply-refused r at k (step-many i c d h l m)) at_many
+fault_stops (Fault.cut k) r at i = rw (reply_cut r at k) (at_cut (Broken.now k) (sym (add-zero at)))
+fault_stops (Fault.long c d rest k h l) r at i = rw (reply_refused r at k (step-long i c d h l)) at_long
+fault_stops (Fault.many c d rest k h l m) r at i = rw (reply_refused r at k (step-many i c d h l m)) at_many
 fault_stops (Fault.lower c d rest k h f) r at i =
-    let j = step-lower i c d h in rw (reply-on r at k j.done) (stops_later k (fault_stops f (step_of r c d) _ j))
+    let j = step-lower i c d h in rw (reply_on r at k j.done) (stops_later k (fault_stops f (step_of r c d) _ j))
 fault_stops (Fault.higher c d rest k h l f) r at i =
-    let j = step-higher i c d h l in rw (reply-on r at k j.done) (stops_later k (fault_stops f (step_of r c d) _ j))
+    let j = step-higher i c d h l in rw (reply_on r at k j.done) (stops_later k (fault_stops f (step_of r c d) _ j))
 fault_stops (Fault.another c d rest k h l m f) r at i =
-    let j = step-another i c d h l m in rw (reply-on r at k j.done) (stops_later k (fault_stops f (step_of r c d) _ j))
+    let j = step-another i c d h l m in rw (reply_on r at k j.done) (stops_later k (fault_stops f (step_of r c d) _ j))
 
 abbrev Found : Which → ℕ → ℕ → List ℕ → ℕ → Type 0
 Found w top listed s n = (n ≡ 0) ⊎ Fault w top listed s n
@@ -243,7 +243,7 @@ found_by : {w : Which} {top listed : ℕ} (s : List ℕ) (r : Reply) (at : ℕ) 
     → ((t : List ℕ) (top' listed' : ℕ) (q : Reply) (at' : ℕ) → length t < length s → At w top' listed' q → Found w top' listed' t (refused_with q at' t))
     → Found w top listed s (refused_with r at s)
 found_by s r at i (end h) rec = inl (ap (λ (q : Reply). outcome_number q.outcome) (reply_ended r at s h) ∙ ap outcome_number i.done)
-found_by s r at i (broken k) rec = inr (rw (ap outcome_number (reply-cut r at k)) (Fault.cut k))
+found_by s r at i (broken k) rec = inr (rw (ap outcome_number (reply_cut r at k)) (Fault.cut k))
 found_by {w} {top} {listed} s r at i (whole c d rest k b) rec =
     let v = verdict_for w c d in
     by_le top v
@@ -251,12 +251,12 @@ found_by {w} {top} {listed} s r at i (whole c d rest k b) rec =
     (λ l. by_le v top
     (λ m. let e : top ≡ v = omega arith in
     by_le 6 listed
-    (λ n. inr (rw (ap outcome_number (reply-refused r at k (step-many i c d e l n))) (Fault.many c d rest k e l n)))
+    (λ n. inr (rw (ap outcome_number (reply_refused r at k (step-many i c d e l n))) (Fault.many c d rest k e l n)))
     (λ n. let j = step-another i c d e l n in
     found_on (on_number r at k j.done) (Fault.another c d rest k e l n) (rec rest _ _ (step_of r c d) _ b j)))
     (λ m. let j = step-higher i c d m l in
     found_on (on_number r at k j.done) (Fault.higher c d rest k m l) (rec rest _ _ (step_of r c d) _ b j)))
-    (λ l. inr (rw (ap outcome_number (reply-refused r at k (step-long i c d h l))) (Fault.long c d rest k h l))))
+    (λ l. inr (rw (ap outcome_number (reply_refused r at k (step-long i c d h l))) (Fault.long c d rest k h l))))
     (λ h. let j = step-lower i c d h in
     found_on (on_number r at k j.done) (Fault.lower c d rest k h) (rec rest _ _ (step_of r c d) _ b j))
 
@@ -268,23 +268,23 @@ fault_found (suc n) s b r at i = found_by s r at i (head_of s) (λ t _ _ q at' l
 -- ---- a request from a fresh start
 
 module _ (p : Proto) (s : List ℕ) where
-  start-at : At (kind_of p) 0 0 (fresh_reply (start_of p))
-  start-at = record { done = refl; kind = kind p; rank = refl; count = refl }
+  start_at : At (kind_of p) 0 0 (fresh_reply (start_of p))
+  start_at = record { done = refl; kind = kind p; rank = refl; count = refl }
     where
       kind : (p : Proto) → kind_of (start_of p) ≡ kind_of p
       kind (Lcp p) = refl
       kind (Ipv4cp p) = refl
 
-  pub request-refused : {n : ℕ} → Fault (kind_of p) 0 0 s n → outcome_number (reply_of (fresh_reply (start_of p)) (walk_of s)).outcome ≡ n
-  request-refused f = stops_number (fault_stops f _ 0 start-at)
+  pub request_refused : {n : ℕ} → Fault (kind_of p) 0 0 s n → outcome_number (reply_of (fresh_reply (start_of p)) (walk_of s)).outcome ≡ n
+  request_refused f = stops_number (fault_stops f _ 0 start_at)
 
   -- where 7 is given, it tells where the option is
-  pub request-tells : Fault (kind_of p) 0 0 s 7 → Told s (reply_of (fresh_reply (start_of p)) (walk_of s)).outcome
-  request-tells f = stops_told (fault_stops f _ 0 start-at) refl
+  pub request_tells : Fault (kind_of p) 0 0 s 7 → Told s (reply_of (fresh_reply (start_of p)) (walk_of s)).outcome
+  request_tells f = stops_told (fault_stops f _ 0 start_at) refl
 
-  pub request-found : (outcome_number (reply_of (fresh_reply (start_of p)) (walk_of s)).outcome ≡ 0)
+  pub request_found : (outcome_number (reply_of (fresh_reply (start_of p)) (walk_of s)).outcome ≡ 0)
       ⊎ Fault (kind_of p) 0 0 s (outcome_number (reply_of (fresh_reply (start_of p)) (walk_of s)).outcome)
-  request-found = fault_found (length s) s (omega arith) _ 0 start-at
+  request_found = fault_found (length s) s (omega arith) _ 0 start_at
 
 pub fault_number : {w : Which} {top listed n : ℕ} {s : List ℕ} → Fault w top listed s n → (n ≡ 7) ⊎ ((n ≡ 8) ⊎ (n ≡ 9))
 fault_number (Fault.cut k) = inl refl
@@ -318,44 +318,44 @@ module _ (rej : Bool) where
   abbrev nacked : Proto → ℕ → List ℕ → Outcome
   nacked p at s = (nacks_of rej p (walk_from at s)).outcome
 
-  nacks-cut : (p : Proto) (at : ℕ) {s : List ℕ} → Cut s → nacked p at s ≡ Refused (OptionCut at)
+  nacks_cut : (p : Proto) (at : ℕ) {s : List ℕ} → Cut s → nacked p at s ≡ Refused (OptionCut at)
   unfolding nacks_of
-  nacks-cut p at {s} k = rw (nacked, cut_walk at s k) refl
+  nacks_cut p at {s} k = rw (nacked, cut_walk at s k) refl
 
-  nacks-ended : (p : Proto) (at : ℕ) (s : List ℕ) → length s ≤ 0 → nacked p at s ≡ Done
+  nacks_ended : (p : Proto) (at : ℕ) (s : List ℕ) → length s ≤ 0 → nacked p at s ≡ Done
   unfolding nacks_of
-  nacks-ended p at s h = rw (nacked, walk_done at s h) refl
+  nacks_ended p at s h = rw (nacked, walk_done at s h) refl
 
-  nacks-on : (p : Proto) (at : ℕ) {s : List ℕ} {c : ℕ} {d rest : List ℕ} → Whole s c d rest
+  nacks_on : (p : Proto) (at : ℕ) {s : List ℕ} {c : ℕ} {d rest : List ℕ} → Whole s c d rest
       → nacked p at s ≡ nacked (own_nacked p c d rej) (at + get_or s 1 0) rest
   unfolding nacks_of
-  nacks-on p at k = rw (nacked, whole_walk at k) refl
+  nacks_on p at k = rw (nacked, whole_walk at k) refl
 
-  broken-refused : {s : List ℕ} {n : ℕ} → Broken s n → (p : Proto) (at : ℕ) → nacked p at s ≡ Refused (OptionCut (at + n))
-  broken-refused (Broken.now k) p at = nacks-cut p at k ∙ ap (λ (m : ℕ). Refused (OptionCut m)) (sym (add-zero at))
-  broken-refused {s} (Broken.later {n = n} c d rest k f) p at =
-      nacks-on p at k ∙ broken-refused f (own_nacked p c d rej) (at + get_or s 1 0) ∙ ap (λ (m : ℕ). Refused (OptionCut m)) (add_assoc at (get_or s 1 0) n)
+  broken_refused : {s : List ℕ} {n : ℕ} → Broken s n → (p : Proto) (at : ℕ) → nacked p at s ≡ Refused (OptionCut (at + n))
+  broken_refused (Broken.now k) p at = nacks_cut p at k ∙ ap (λ (m : ℕ). Refused (OptionCut m)) (sym (add-zero at))
+  broken_refused {s} (Broken.later {n = n} c d rest k f) p at =
+      nacks_on p at k ∙ broken_refused f (own_nacked p c d rej) (at + get_or s 1 0) ∙ ap (λ (m : ℕ). Refused (OptionCut m)) (add_assoc at (get_or s 1 0) n)
 
-  broken-found : (n : ℕ) (s : List ℕ) → length s ≤ n → (p : Proto) (at : ℕ) → Ended s (nacked p at s)
-  broken-found zero s b p at = taken (nacks-ended p at s b)
-  broken-found (suc n) s b p at = by-head (head_of s) (λ t l. broken-found n t (omega arith))
+  broken_found : (n : ℕ) (s : List ℕ) → length s ≤ n → (p : Proto) (at : ℕ) → Ended s (nacked p at s)
+  broken_found zero s b p at = taken (nacks_ended p at s b)
+  broken_found (suc n) s b p at = by_head (head_of s) (λ t l. broken_found n t (omega arith))
     where
       on : {c : ℕ} {d rest : List ℕ} → Whole s c d rest → Ended rest (nacked (own_nacked p c d rej) (at + get_or s 1 0) rest) → Ended s (nacked p at s)
-      on k (taken e) = taken (nacks-on p at k ∙ e)
+      on k (taken e) = taken (nacks_on p at k ∙ e)
       on k (cut_at b) = cut_at (Broken.later _ _ _ k b)
 
-      by-head : Head s → ((t : List ℕ) → length t < length s → (q : Proto) (at' : ℕ) → Ended t (nacked q at' t)) → Ended s (nacked p at s)
-      by-head (end h) rec = taken (nacks-ended p at s h)
-      by-head (broken k) rec = cut_at (Broken.now k)
-      by-head (whole c d rest k l) rec = on k (rec rest l (own_nacked p c d rej) (at + get_or s 1 0))
+      by_head : Head s → ((t : List ℕ) → length t < length s → (q : Proto) (at' : ℕ) → Ended t (nacked q at' t)) → Ended s (nacked p at s)
+      by_head (end h) rec = taken (nacks_ended p at s h)
+      by_head (broken k) rec = cut_at (Broken.now k)
+      by_head (whole c d rest k l) rec = on k (rec rest l (own_nacked p c d rej) (at + get_or s 1 0))
 
   module _ (p : Proto) (s : List ℕ) where
-    pub answer-refused : {n : ℕ} → Broken s n → (nacks_of rej p (walk_of s)).outcome ≡ Refused (OptionCut n)
-    answer-refused {n} f = broken-refused f p 0 ∙ ap (λ (m : ℕ). Refused (OptionCut m)) (zero-add n)
+    pub answer_refused : {n : ℕ} → Broken s n → (nacks_of rej p (walk_of s)).outcome ≡ Refused (OptionCut n)
+    answer_refused {n} f = broken_refused f p 0 ∙ ap (λ (m : ℕ). Refused (OptionCut m)) (zero-add n)
 
-    pub answer-found : Ended s (nacks_of rej p (walk_of s)).outcome
-    answer-found = broken-found (length s) s (omega arith) p 0
+    pub answer_found : Ended s (nacks_of rej p (walk_of s)).outcome
+    answer_found = broken_found (length s) s (omega arith) p 0
 
     -- one place is the first
-    pub broken-one : {m n : ℕ} → Broken s m → Broken s n → m ≡ n
-    broken-one f g = ap (λ (o : Outcome). get_or (outcome_values o) 0 0) (sym (answer-refused f) ∙ answer-refused g)
+    pub broken_one : {m n : ℕ} → Broken s m → Broken s n → m ≡ n
+    broken_one f g = ap (λ (o : Outcome). get_or (outcome_values o) 0 0) (sym (answer_refused f) ∙ answer_refused g)

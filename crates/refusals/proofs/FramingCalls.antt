@@ -67,8 +67,8 @@ module _ (us : List (List ℕ)) (full crc : ℕ) (w : FrameWriter) (buf : List �
     closed : Ran us buf w.len (sets buf w.len (fit (length buf - w.len) us)) (w.len + length (fit (length buf - w.len) us)) (leb (w.len + length (flatten us)) (length buf))
     closed = rw join_flatten at (write_closed us buf w.len enough)
 
-    writes-full : leb (w.len + length (flatten us)) (length buf) ≡ false → Writ
-    writes-full e =
+    writes_full : leb (w.len + length (flatten us)) (length buf) ≡ false → Writ
+    writes_full e =
         let t : (write us buf w.len).done ≡ false = sym closed.same_done ∙ e in
         let n : outcome_number o ≡ 1 = c.number ∙ rw (l, t) refl in
         let f = fit_of us w.len buf enough in
@@ -88,8 +88,8 @@ module _ (us : List (List ℕ)) (full crc : ℕ) (w : FrameWriter) (buf : List �
           done = λ z. absurd (omega arith);
         }
 
-    writes-all : leb (w.len + length (flatten us)) (length buf) ≡ true → Writ
-    writes-all e =
+    writes_all : leb (w.len + length (flatten us)) (length buf) ≡ true → Writ
+    writes_all e =
         let t : (write us buf w.len).done ≡ true = sym closed.same_done ∙ e in
         let h = leb-true (w.len + length (flatten us)) (length buf) e in
         let f : fit (length buf - w.len) us ≡ flatten us = fit_all us (length buf - w.len) (rw join_flatten (omega arith)) ∙ join_flatten us in
@@ -98,10 +98,10 @@ module _ (us : List (List ℕ)) (full crc : ℕ) (w : FrameWriter) (buf : List �
           done = λ _. rw (c.writer, c.bytes, l, t, ← closed.same_at, ← closed.same_bytes, f, sets-eq (flatten us) buf w.len h) refl;
         }
 
-  pub writes-right : Writ
-  writes-right =
+  pub writes_right : Writ
+  writes_right =
       by_test (lent w buf)
-      (λ l. by_test (leb (w.len + length (flatten us)) (length buf)) (writes-all l) (writes-full l))
+      (λ l. by_test (leb (w.len + length (flatten us)) (length buf)) (writes_all l) (writes_full l))
       writes_short
 
 -- ---- the encoding of one packet

@@ -16,9 +16,9 @@ use Rattle.framing.specs.declared.frame_reader.FrameReader.{FrameReader}
 use Rattle.framing.specs.declared.frame_reader.Got.{Got}
 use Rattle.refusals.specs.Rows.{Row, Exactly}
 use Rattle.refusals.specs.Framing.{Writing, starting, appending, finishing, writer_rows, all_written, encode_rows, whole_frame, answer_number, consume_rows, receive_rows}
-use Rattle.refusals.proofs.Rows.{distinct, numbers, first-exactly}
+use Rattle.refusals.proofs.Rows.{distinct, numbers, first_exactly}
 use Rattle.refusals.proofs.Units.{units-map}
-use Rattle.refusals.proofs.FramingCalls.{Right, writes-right, lays_right, answer_number_lem, consume_right, receive_right}
+use Rattle.refusals.proofs.FramingCalls.{Right, writes_right, lays_right, answer_number_lem, consume_right, receive_right}
 
 -- a call that gives n and leaves a: the table, and what it leaves where nothing is refused
 pub record Holds {A : Type 0} (rows : List (Row A)) (whole : A) (n : ℕ) (a : A) : Type 0 where
@@ -50,16 +50,16 @@ pub record FramingHolds : Type 0 where
       → Exactly ⊥ (receive_rows r) (got_number g) r'
 
 holds_of : {A : Type 0} {rows : List (Row A)} {whole : A} {n : ℕ} {a : A} → Right rows whole n a → distinct (numbers rows) ≡ true → Holds rows whole n a
-holds_of {rows = rows} h d = record { table = first-exactly _ _ rows h.first d; done = h.done }
+holds_of {rows = rows} h d = record { table = first_exactly _ _ rows h.first d; done = h.done }
 
 pub exactly_framing : FramingHolds
 exactly_framing =
     record {
-      start = λ w buf c. holds_of (writes-right (start_units w.asyncmap) 0x3DE3 0x3DE3 w buf c) refl;
-      append = λ w bs buf c. rw (← units-map w.asyncmap bs) (holds_of (writes-right (units w.asyncmap bs) w.crc (fcs w.crc bs) w buf c) refl);
-      finish = λ w buf c. holds_of (writes-right _ w.crc w.crc w buf (rw units-map at c)) refl;
+      start = λ w buf c. holds_of (writes_right (start_units w.asyncmap) 0x3DE3 0x3DE3 w buf c) refl;
+      append = λ w bs buf c. rw (← units-map w.asyncmap bs) (holds_of (writes_right (units w.asyncmap bs) w.crc (fcs w.crc bs) w buf c) refl);
+      finish = λ w buf c. holds_of (writes_right _ w.crc w.crc w buf (rw units-map at c)) refl;
       encode = λ m p buf c. holds_of (lays_right m p buf c.number c.lays) refl;
       ppp_encode = λ m p buf c. holds_of (lays_right m p buf (answer_number_lem m p buf c) c) refl;
-      consume = λ r rx bs c d. first-exactly _ _ (consume_rows r.len r rx) (consume_right (held r rx) bs r c.number c.count d (λ e. c.reader ∙ e) c.bytes) refl;
-      receive = λ r c. first-exactly _ _ (receive_rows r) (receive_right r c) refl;
+      consume = λ r rx bs c d. first_exactly _ _ (consume_rows r.len r rx) (consume_right (held r rx) bs r c.number c.count d (λ e. c.reader ∙ e) c.bytes) refl;
+      receive = λ r c. first_exactly _ _ (receive_rows r) (receive_right r c) refl;
     }

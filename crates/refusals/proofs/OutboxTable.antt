@@ -20,12 +20,12 @@ use Rattle.outbox.specs.Outbox.{longest, free, is_full, Accept, accept_of, as_ac
 use Rattle.outbox.specs.declared.outbox.Outbox.{Outbox}
 use Rattle.outbox.specs.declared.outbox.Accepted.{Accepted}
 use Rattle.outbox.specs.declared.outbox.Sent.{Sent}
-use Rattle.outbox.proofs.Accepting.{accept-cases, full_count, room_bytes, room_count}
-use Rattle.outbox.proofs.Sending.{send-none, send-down, send-up, send-cases, up_opened, opened_up}
+use Rattle.outbox.proofs.Accepting.{accept_cases, full_count, room_bytes, room_count}
+use Rattle.outbox.proofs.Sending.{send-none, send_down, send-up, send_cases, up_opened, opened_up}
 use Rattle.refusals.specs.Rows.{Exactly}
 use Rattle.refusals.specs.Framing.{Counted, Fitted, units_of, encode_rows, whole_frame}
 use Rattle.refusals.specs.Outbox.{accept_rows, outbox_rows}
-use Rattle.refusals.proofs.Rows.{First, first-exactly}
+use Rattle.refusals.proofs.Rows.{First, first_exactly}
 use Rattle.refusals.proofs.FramingCalls.{lays_right}
 
 -- ---- accept
@@ -51,7 +51,7 @@ module _ (o : Outbox) (buf p : List ℕ) where
 
   files : Files (accept_of o buf p)
   files =
-      accept-cases o buf p Files
+      accept_cases o buf p Files
       (λ h. inl (refl, h, (refl, refl)))
       (λ h w. inr ((λ k. omega arith), inl (refl, w, (refl, refl))))
       (λ h z s f. inr ((λ k. omega arith), inr (fair z s, inl (refl, full_is f, (refl, refl)))))
@@ -63,11 +63,11 @@ module _ (o : Outbox) (l : PPPoS) (buf tx : List ℕ) where
   abbrev Mails : Send → Type 0
   Mails s = First (outcome_number s.outcome) (record { count = s.count; outbox = s.outbox; tx = s.tx }) (outbox_rows o l buf tx (front_in o buf))
 
-  abbrev frontHolds : Bool
-  frontHolds = holds (remote_map l) (ip_frame (front_in o buf)) (length tx)
+  abbrev front_holds : Bool
+  front_holds = holds (remote_map l) (ip_frame (front_in o buf)) (length tx)
 
   -- what the link's send leaves where the frame does not fit
-  stopped : frontHolds ≡ false → Fitted (units_of (remote_map l) (ip_frame (front_in o buf))) 0 tx (written l (front_in o buf) tx)
+  stopped : front_holds ≡ false → Fitted (units_of (remote_map l) (ip_frame (front_in o buf))) 0 tx (written l (front_in o buf) tx)
   stopped e = go (lays_right (remote_map l) (ip_frame (front_in o buf)) tx {k = 1} (sym (rw e refl)) (record { count = sym (rw e refl); bytes = refl })).first
     where
       go : First 1 (record { count = 0; bytes = written l (front_in o buf) tx }) (encode_rows (remote_map l) (ip_frame (front_in o buf)) tx)
@@ -82,14 +82,14 @@ module _ (o : Outbox) (l : PPPoS) (buf tx : List ℕ) where
 
   mails : Mails (send_of o l buf tx)
   mails =
-      send-cases o l buf tx Mails
+      send_cases o l buf tx Mails
       (λ h. inl (refl, h, (refl, refl, refl)))
       (λ h e. inr ((λ k. omega arith), inr ((λ x. silent e x.0 x.1), refl)))
-      (λ h some u t. inr ((λ k. omega arith), inl (refl, (omega (arith, some-held some), up_opened l u, leb-false (length (frame (remote_map l) (ip_frame (front_in o buf)))) (length tx) t), (refl, refl, stopped t))))
+      (λ h some u t. inr ((λ k. omega arith), inl (refl, (omega (arith, some_held some), up_opened l u, leb-false (length (frame (remote_map l) (ip_frame (front_in o buf)))) (length tx) t), (refl, refl, stopped t))))
       (λ h some u t. inr ((λ k. omega arith), inr ((λ x. omega (arith, x.2, leb-true (length (frame (remote_map l) (ip_frame (front_in o buf)))) (length tx) t)), refl)))
     where
-      some-held : (o.held ≡ 0 → ⊥) → 0 < o.held
-      some-held some = by_le 1 o.held (λ h. omega arith) (λ h. absurd (some (omega arith)))
+      some_held : (o.held ≡ 0 → ⊥) → 0 < o.held
+      some_held some = by_le 1 o.held (λ h. omega arith) (λ h. absurd (some (omega arith)))
 
 -- each call as its contract has it
 pub record OutboxHolds : Type 0 where
@@ -119,12 +119,12 @@ module _ (o : Outbox) (l : PPPoS) (buf tx : List ℕ) (h : o.size ≤ length buf
   rests_still e (inr d) =
       by_test (eqb o.held 0)
       (λ z. still o tx (e ∙ send-none o l buf tx h (eqb-true o.held 0 z)))
-      (λ z. by_test (up l) (λ u. absurd (d (up_opened l u))) (λ u. still o tx (e ∙ send-down o l buf tx h (eqb-false o.held 0 z) u)))
+      (λ z. by_test (up l) (λ u. absurd (d (up_opened l u))) (λ u. still o tx (e ∙ send_down o l buf tx h (eqb-false o.held 0 z) u)))
 
-  goes-whole : {r : Sent} {tx' : List ℕ} → as_send r tx' ≡ send_of o l buf tx → 0 < o.held → l.ppp.ipv4cp.state ≡ Opened
+  goes_whole : {r : Sent} {tx' : List ℕ} → as_send r tx' ≡ send_of o l buf tx → 0 < o.held → l.ppp.ipv4cp.state ≡ Opened
       → length (frame (remote_map l) (ip_frame (front_in o buf))) ≤ length tx
       → ◌≡◌ {A = Counted} (record { count = r.count; bytes = tx' }) (whole_frame (remote_map l) (ip_frame (front_in o buf)) tx)
-  goes-whole e z d k =
+  goes_whole e z d k =
       let p = ip_frame (front_in o buf) in
       let t = le-leb (length (frame (remote_map l) p)) (length tx) k in
       let w = e ∙ send-up o l buf tx h (λ q. omega arith) (opened_up l d) ∙ ap (λ (b : Bool). cond b (sent_first o l (front_in o buf) tx) (kept_first o l (front_in o buf) tx)) t in
@@ -134,8 +134,8 @@ module _ (o : Outbox) (l : PPPoS) (buf tx : List ℕ) (h : o.size ≤ length buf
 pub exactly_outbox : OutboxHolds
 exactly_outbox =
     record {
-      accept = λ o buf p e. first-exactly _ _ (accept_rows o buf p) (subst (Files o buf p) (sym e) (files o buf p)) refl;
-      send = λ o l buf tx e. first-exactly _ _ (outbox_rows o l buf tx (front_in o buf)) (subst (Mails o l buf tx) (sym e) (mails o l buf tx)) refl;
+      accept = λ o buf p e. first_exactly _ _ (accept_rows o buf p) (subst (Files o buf p) (sym e) (files o buf p)) refl;
+      send = λ o l buf tx e. first_exactly _ _ (outbox_rows o l buf tx (front_in o buf)) (subst (Mails o l buf tx) (sym e) (mails o l buf tx)) refl;
       rests = λ o l buf tx e h d. rests_still o l buf tx h e d;
-      goes = λ o l buf tx e h z d k. goes-whole o l buf tx h e z d k;
+      goes = λ o l buf tx e h z d k. goes_whole o l buf tx h e z d k;
     }

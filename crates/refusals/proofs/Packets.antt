@@ -16,7 +16,7 @@ use Rattle.refusals.specs.Rows.{Row}
 use Rattle.refusals.specs.Packets.{OptionFault, packet_rows}
 use Rattle.refusals.proofs.Rows.{First, Each, Holds, none_first, holds-first}
 use Rattle.refusals.proofs.Faults.{fault_number}
-use Rattle.refusals.proofs.Causes.{number_from, short-refused, configure-refused, echo-refused, pap-refused, option-refused, option-points, reply-refused, Cause, fine, short, configure_short, echo_empty, pap_past, option, reply_long, cause}
+use Rattle.refusals.proofs.Causes.{number_from, short_refused, configure_refused, echo_refused, pap_refused, option_refused, option_points, reply_refused, Cause, fine, short, configure_short, echo_empty, pap_past, option, reply_long, cause}
 
 pub refusal_some : (why : Refusal) → number_of why ≡ 0 → ⊥
 refusal_some why = not_given why 0 (λ e. omega arith)
@@ -42,39 +42,39 @@ module _ {A : Type 0} (given : Type 0 → Type 0) (told : A → List ℕ) (leave
   -- what holds of a number for which negotiation refuses holds of each row's
   each : (P : ℕ → Type 0) → ((n : ℕ) (c : Type 0) → (c → number_from p pkt ≡ n) → given c → P n) → Each (λ r. r.when → P r.number) rows
   each P f =
-      f _ _ (short-refused p pkt)
-      & f _ _ (configure-refused p pkt)
-      & f _ _ (echo-refused p pkt)
-      & f _ _ (λ h. pap-refused p pkt h.0 h.1)
-      & f _ _ (option-refused p pkt)
-      & f _ _ (option-refused p pkt)
-      & f _ _ (option-refused p pkt)
-      & f _ _ (reply-refused p pkt)
+      f _ _ (short_refused p pkt)
+      & f _ _ (configure_refused p pkt)
+      & f _ _ (echo_refused p pkt)
+      & f _ _ (λ h. pap_refused p pkt h.0 h.1)
+      & f _ _ (option_refused p pkt)
+      & f _ _ (option_refused p pkt)
+      & f _ _ (option_refused p pkt)
+      & f _ _ (reply_refused p pkt)
       & tt
 
   -- a packet that is not refused
-  pub packet-fine : {m : ℕ} → ((c : Type 0) → given c → c × (number_from p pkt ≡ 0)) → First m a rest → First m a (rows ++ rest)
-  packet-fine {m} out last = none_first m a rest rows refl (each (λ n. n ≡ 0) (λ n c k h. sym (k (out c h).0) ∙ (out c h).1)) last
+  pub packet_fine : {m : ℕ} → ((c : Type 0) → given c → c × (number_from p pkt ≡ 0)) → First m a rest → First m a (rows ++ rest)
+  packet_fine {m} out last = none_first m a rest rows refl (each (λ n. n ≡ 0) (λ n c k h. sym (k (out c h).0) ∙ (out c h).1)) last
 
   module _ (out : (c : Type 0) → given c → c) (into : (c : Type 0) → c → given c) (l : leaves a) (t : told a ≡ outcome_values (received_of p pkt).outcome) where
     quiet : (number_from p pkt ≡ 7 → ⊥) → leaves a × (told a ≡ [])
     quiet h = (l, t ∙ outcome_silent (received_of p pkt).outcome h)
 
     by_option : (m : ℕ) → number_from p pkt ≡ m → OptionFault p pkt m → (m ≡ 7) ⊎ ((m ≡ 8) ⊎ (m ≡ 9)) → Holds m a rows
-    by_option m e x (inl n) = rw n (into _ (rw n at x), (l, rw t (option-points p pkt (rw n at x))))
+    by_option m e x (inl n) = rw n (into _ (rw n at x), (l, rw t (option_points p pkt (rw n at x))))
     by_option m e x (inr (inl n)) = rw n (into _ (rw n at x), quiet (λ z. omega arith))
     by_option m e x (inr (inr n)) = rw n (into _ (rw n at x), quiet (λ z. omega arith))
 
-    by-cause : (m : ℕ) → number_from p pkt ≡ m → (m ≡ 0 → ⊥) → Cause p pkt m → Holds m a rows
-    by-cause m e z fine = absurd (z refl)
-    by-cause m e z (short h) = (into _ h, quiet (λ k. omega arith))
-    by-cause m e z (configure_short h) = (into _ h, quiet (λ k. omega arith))
-    by-cause m e z (echo_empty h) = (into _ h, quiet (λ k. omega arith))
-    by-cause m e z (pap_past o h) = (into _ (o, h), quiet (λ k. omega arith))
-    by-cause m e z (option x) = by_option _ e x (option_number x)
-    by-cause m e z (reply_long h) = (into _ h, quiet (λ k. omega arith))
+    by_cause : (m : ℕ) → number_from p pkt ≡ m → (m ≡ 0 → ⊥) → Cause p pkt m → Holds m a rows
+    by_cause m e z fine = absurd (z refl)
+    by_cause m e z (short h) = (into _ h, quiet (λ k. omega arith))
+    by_cause m e z (configure_short h) = (into _ h, quiet (λ k. omega arith))
+    by_cause m e z (echo_empty h) = (into _ h, quiet (λ k. omega arith))
+    by_cause m e z (pap_past o h) = (into _ (o, h), quiet (λ k. omega arith))
+    by_cause m e z (option x) = by_option _ e x (option_number x)
+    by_cause m e z (reply_long h) = (into _ h, quiet (λ k. omega arith))
 
     -- one that is refused
-    pub packet-refused : (m : ℕ) → number_from p pkt ≡ m → (m ≡ 0 → ⊥) → First m a (rows ++ rest)
-    packet-refused m e z =
-        holds-first m a rest rows (each (λ n. m ≡ n) (λ n c k h. sym e ∙ k (out c h))) (by-cause m e z (rw e at (cause p pkt)))
+    pub packet_refused : (m : ℕ) → number_from p pkt ≡ m → (m ≡ 0 → ⊥) → First m a (rows ++ rest)
+    packet_refused m e z =
+        holds-first m a rest rows (each (λ n. m ≡ n) (λ n c k h. sym e ∙ k (out c h))) (by_cause m e z (rw e at (cause p pkt)))

@@ -18,7 +18,7 @@ use Rattle.options.specs.Refusal.{number_of, outcome_number, outcome_values}
 use Rattle.phases.specs.Phases.{Turn, received_of, poll_of, turn_of}
 use Rattle.options.specs.declared.refusal.Outcome.{Outcome}
 use Rattle.options.specs.declared.refusal.Outcome.TheVariants.{Done, Refused}
-use Rattle.phases.proofs.Phasing.{turn-refused, turn-done}
+use Rattle.phases.proofs.Phasing.{turn_refused_lem, turn_done}
 use Rattle.link.specs.Frames.{frames}
 use Rattle.link.specs.Link.{held_by, link_of, Poll, declined, written, answered_poll, is_ip, packet_poll, poll_link, Polls, action_number, action_values, transmitted}
 use Rattle.refusals.specs.Table.{packet_in, Kept, link_moved_on, poll_rows}
@@ -26,12 +26,12 @@ use Rattle.link.specs.declared.refusal.Refusal.TheVariants.{Negotiation}
 use Rattle.link.specs.declared.pppos.PPPoS.{PPPoS}
 use Rattle.link.specs.declared.pppos.PPPoSAction.{PPPoSAction}
 use Rattle.link.specs.declared.pppos.PPPoSAction.TheVariants.{Received}
-use Rattle.link.proofs.Polling.{answered-done, answered-refused}
+use Rattle.link.proofs.Polling.{answered-done, answered_refused}
 use Rattle.link.proofs.Hearing.{sent_count, ip_received}
 use Rattle.refusals.proofs.Rows.{First}
 use Rattle.refusals.proofs.FramingCalls.{complete_is}
 use Rattle.refusals.proofs.Causes.{number_from}
-use Rattle.refusals.proofs.Packets.{refusal_some, packet-fine, packet-refused}
+use Rattle.refusals.proofs.Packets.{refusal_some, packet_fine, packet_refused}
 
 -- ---- what a poll comes to
 
@@ -80,53 +80,53 @@ module _ (l : PPPoS) (tx rx : List ℕ) where
 
   module _ (out : List ℕ) (q : Poll) (held : length rx < l.frame_reader.len → ⊥) where
     -- a packet that is not refused
-    first-last : (Got → number_from l.ppp pkt ≡ 0) → Last out q → First (action_number q.action) (kept_of q) (poll_rows l tx rx out)
+    first_last : (Got → number_from l.ppp pkt ≡ 0) → Last out q → First (action_number q.action) (kept_of q) (poll_rows l tx rx out)
     unfolding Last
-    first-last z last = inr (held, packet-fine (λ c. Got × c) (λ k. k.told) Dropped l.ppp pkt (drop 9 (poll_rows l tx rx out)) (kept_of q) (λ c h. (h.1, z h.0)) last)
+    first_last z last = inr (held, packet_fine (λ c. Got × c) (λ k. k.told) Dropped l.ppp pkt (drop 9 (poll_rows l tx rx out)) (kept_of q) (λ c h. (h.1, z h.0)) last)
 
     -- one that is
-    first-refused : (m : ℕ) → Got → number_from l.ppp pkt ≡ m → (m ≡ 0 → ⊥) → Dropped (kept_of q) → action_values q.action ≡ outcome_values (received_of l.ppp pkt).outcome
+    first_refused : (m : ℕ) → Got → number_from l.ppp pkt ≡ m → (m ≡ 0 → ⊥) → Dropped (kept_of q) → action_values q.action ≡ outcome_values (received_of l.ppp pkt).outcome
         → First m (kept_of q) (poll_rows l tx rx out)
-    first-refused m g e z d t =
-        inr (held, packet-refused (λ c. Got × c) (λ k. k.told) Dropped l.ppp pkt (drop 9 (poll_rows l tx rx out)) (kept_of q) (λ c h. h.1) (λ c x. (g, x)) d t m e z)
+    first_refused m g e z d t =
+        inr (held, packet_refused (λ c. Got × c) (λ k. k.told) Dropped l.ppp pkt (drop 9 (poll_rows l tx rx out)) (kept_of q) (λ c h. h.1) (λ c x. (g, x)) d t m e z)
 
   module _ (held : length rx < l.frame_reader.len → ⊥) where
     -- a turn of negotiation that refuses nothing
-    right-written : (r : FrameReader) (t : Turn) → (Got → number_from l.ppp pkt ≡ 0) → Right l tx rx (frames t.sent) (written l r t tx rx)
-    right-written r t z =
+    right_written : (r : FrameReader) (t : Turn) → (Got → number_from l.ppp pkt ≡ 0) → Right l tx rx (frames t.sent) (written l r t tx rx)
+    right_written r t z =
         let w = written_last r t in
-        record { first = first-last (frames t.sent) (written l r t tx rx) held z w.0; sent = w.1 }
+        record { first = first_last (frames t.sent) (written l r t tx rx) held z w.0; sent = w.1 }
 
     -- the packet, by what negotiation says of it
-    right-turn : Got → (o : Outcome) → (received_of l.ppp pkt).outcome ≡ o
+    right_turn : Got → (o : Outcome) → (received_of l.ppp pkt).outcome ≡ o
         → Right l tx rx (frames (turn_of l.ppp pkt).sent) (answered_poll l (fetched l.frame_reader) (turn_of l.ppp pkt) tx rx)
-    right-turn g Done e =
+    right_turn g Done e =
         let r = fetched l.frame_reader in
         let t = turn_of l.ppp pkt in
-        rw (answered-done l r t tx rx (ap (λ (t : Turn). t.outcome) (turn-done l.ppp pkt e))) (right-written r t (λ _. ap outcome_number e))
-    right-turn g (Refused why) e =
+        rw (answered-done l r t tx rx (ap (λ (t : Turn). t.outcome) (turn_done l.ppp pkt e))) (right_written r t (λ _. ap outcome_number e))
+    right_turn g (Refused why) e =
         let r = fetched l.frame_reader in
         let t = turn_of l.ppp pkt in
         let n = ap outcome_number e in
-        rw (answered-refused l r t tx rx (ap (λ (t : Turn). t.outcome) (turn-refused l.ppp pkt e)))
+        rw (answered_refused l r t tx rx (ap (λ (t : Turn). t.outcome) (turn_refused_lem l.ppp pkt e)))
         (record {
           first =
-              first-refused (frames t.sent) (declined (Negotiation why) (link_of r l.ppp) tx rx) held (number_of why) g n (refusal_some why)
+              first_refused (frames t.sent) (declined (Negotiation why) (link_of r l.ppp) tx rx) held (number_of why) g n (refusal_some why)
               (refl, refl, refl) (sym (ap outcome_values e));
           sent = λ z. absurd (refusal_some why z);
         })
 
     -- an IPv4 packet is refused for nothing
-    ip-fine : is_ip pkt ≡ true → number_from l.ppp pkt ≡ 0
-    ip-fine e = rw (ip_received l.ppp pkt e) refl
+    ip_fine : is_ip pkt ≡ true → number_from l.ppp pkt ≡ 0
+    ip_fine e = rw (ip_received l.ppp pkt e) refl
 
-    right-packet : Got → Right l tx rx (cond (is_ip pkt) [] (frames (turn_of l.ppp pkt).sent))
+    right_packet : Got → Right l tx rx (cond (is_ip pkt) [] (frames (turn_of l.ppp pkt).sent))
         (packet_poll l (fetched l.frame_reader) (l.frame_reader.len - 2) tx rx pkt)
     unfolding packet_poll Last
-    right-packet g =
+    right_packet g =
         by_test (is_ip pkt)
-        (λ e. rw e (record { first = first-last [] (record { action = Received 3 (l.frame_reader.len - 2); link = link_of (fetched l.frame_reader) l.ppp; tx = tx; rx = rx }) held (λ _. ip-fine e) (inr ((λ h. omega arith), refl)); sent = λ _. (refl, refl) }))
-        (λ e. rw e (right-turn g (received_of l.ppp pkt).outcome refl))
+        (λ e. rw e (record { first = first_last [] (record { action = Received 3 (l.frame_reader.len - 2); link = link_of (fetched l.frame_reader) l.ppp; tx = tx; rx = rx }) held (λ _. ip_fine e) (inr ((λ h. omega arith), refl)); sent = λ _. (refl, refl) }))
+        (λ e. rw e (right_turn g (received_of l.ppp pkt).outcome refl))
 
   right : Right l tx rx (out_of l rx) (poll_link l tx rx)
   unfolding poll_link answered_poll
@@ -144,8 +144,8 @@ module _ (l : PPPoS) (tx rx : List ℕ) where
         sent = λ z. absurd (omega arith);
       })
       (λ h. let m : r.len - 2 - 1 ≡ r.len - 3 = omega arith in
-      rw (s, m) (right-packet held g)))
-      (λ s. rw s (right-written held r (poll_of l.ppp) (λ g. absurd (true≢false (sym (ap is_complete g) ∙ s))))))
+      rw (s, m) (right_packet held g)))
+      (λ s. rw s (right_written held r (poll_of l.ppp) (λ g. absurd (true≢false (sym (ap is_complete g) ∙ s))))))
 
 -- ---- as the contract has it
 

@@ -67,8 +67,8 @@ module _ {A : Type 0} (n : ℕ) (a : A) where
       either (inr x) = h.0 x
 
   -- at the head of all rows
-  pub first-exactly : (rs : List (Row A)) → First n a rs → distinct (numbers rs) ≡ true → Exactly ⊥ rs n a
-  first-exactly rs f d = first rs ⊥ (λ x. x) f d
+  pub first_exactly : (rs : List (Row A)) → First n a rs → distinct (numbers rs) ≡ true → Exactly ⊥ rs n a
+  first_exactly rs f d = first rs ⊥ (λ x. x) f d
 
 -- ---- rows before others
 

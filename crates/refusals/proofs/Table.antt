@@ -20,7 +20,7 @@ use Rattle.link.specs.declared.refusal.Outcome.{Outcome}
 use Rattle.link.specs.declared.choices.Choices.{Choices}
 use Rattle.link.specs.declared.pppos.PPPoS.{PPPoS}
 use Rattle.link.specs.declared.pppos.PPPoSAction.{PPPoSAction}
-use Rattle.refusals.proofs.Rows.{first-exactly}
+use Rattle.refusals.proofs.Rows.{first_exactly}
 use Rattle.refusals.proofs.Calls.{new_first, open_first, consume-first, send-first, lines_first}
 use Rattle.refusals.proofs.Polls.{out_of, poll-first, poll-sent}
 
@@ -51,17 +51,17 @@ poll-holds : (l : PPPoS) (rx : List ℕ) → PollHolds l rx
 poll-holds l rx =
     record {
       out = out_of l rx;
-      table = λ tx c. first-exactly _ _ (poll_rows l tx rx (out_of l rx)) (poll-first l tx rx c) refl;
+      table = λ tx c. first_exactly _ _ (poll_rows l tx rx (out_of l rx)) (poll-first l tx rx c) refl;
       sent = λ tx c. poll-sent l tx rx c;
     }
 
 pub exactly : TableHolds
 exactly =
     record {
-      new = λ name password c m. first-exactly _ _ (new_rows name password (empty_link c)) (new_first name password (empty_link c) m.number (λ e. m.link ∙ ap (link_of (fresh_reader c.reading)) e)) refl;
-      «open» = λ l c. first-exactly _ _ (open_rows l.ppp.phase l) (open_first l.ppp l c.number (λ e. c.link ∙ ap (link_of l.frame_reader) e)) refl;
-      consume = λ l rx bs c d. first-exactly _ _ (consume_rows l.frame_reader.len l rx) (consume-first l rx bs c d) refl;
+      new = λ name password c m. first_exactly _ _ (new_rows name password (empty_link c)) (new_first name password (empty_link c) m.number (λ e. m.link ∙ ap (link_of (fresh_reader c.reading)) e)) refl;
+      «open» = λ l c. first_exactly _ _ (open_rows l.ppp.phase l) (open_first l.ppp l c.number (λ e. c.link ∙ ap (link_of l.frame_reader) e)) refl;
+      consume = λ l rx bs c d. first_exactly _ _ (consume_rows l.frame_reader.len l rx) (consume-first l rx bs c d) refl;
       poll = poll-holds;
-      send = λ l pkt tx c. first-exactly _ _ (send_rows l pkt tx) (send-first l pkt tx c) refl;
-      lines = λ s buf c. first-exactly _ _ (lines_rows (lines_of s) buf) (lines_first s buf c) refl;
+      send = λ l pkt tx c. first_exactly _ _ (send_rows l pkt tx) (send-first l pkt tx c) refl;
+      lines = λ s buf c. first_exactly _ _ (lines_rows (lines_of s) buf) (lines_first s buf c) refl;
     }

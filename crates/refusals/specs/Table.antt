@@ -4,7 +4,7 @@
 use Rattle.std.specs.Prelude.{◌≡◌, false, List, [], ◌∷◌, ◌++◌, ℕ, ◌+◌, ◌-◌, ◌<◌, length, take, drop, replicate}
 use Rattle.framing.specs.declared.frame_reader.State.TheVariants.{Start, Complete}
 use Rattle.options.specs.declared.lcp.AuthType.TheVariants.{None}
-use Rattle.negotiation.specs.declared.pap.PapState.TheVariants as papState
+use Rattle.negotiation.specs.declared.pap.PapState.TheVariants as pap_state
 use Rattle.negotiation.specs.declared.states.State.TheVariants.{Closed}
 use Rattle.phases.specs.declared.ppp.Phase.{Phase}
 use Rattle.phases.specs.declared.ppp.Phase.TheVariants.{Dead}
@@ -24,7 +24,7 @@ empty_ppp =
       phase = Dead;
       opening = false;
       lcp = record { id = 1; state = Closed; proto = record { auth = None; asyncmap_remote = 0xFFFFFFFF; asyncmap = 0; asyncmap_rej = false } };
-      auth = record { credentials = record { username_len = 0; password_len = 0; bytes = replicate 120 0 }; pap = record { state = papState.Closed; id = 1 } };
+      auth = record { credentials = record { username_len = 0; password_len = 0; bytes = replicate 120 0 }; pap = record { state = pap_state.Closed; id = 1 } };
       ipv4cp =
           record {
             id = 1;

@@ -1,4 +1,4 @@
-use Rattle.feeding.proofs.Feeding.{starts, within, again, still-few, finished, idle_most}
+use Rattle.feeding.proofs.Feeding.{starts, within, again, still_few, finished, idle_most}
 use native.Mathlib.Omega.{arith}
 use mathlib.Core.Path.{refl}
 use Prim.Native.Nat.{◌<◌}
@@ -23,7 +23,7 @@ loop-at-preserved c = let l = c.loop-at in
       omega arith,
       omega arith,
       rw e (again src l.at c.loop-at-test.true small l.invariant.4 t.ensures),
-      still-few src l.at l.l l.tx l.rx l.drops l.invariant.5 t.ensures,
+      still_few src l.at l.l l.tx l.rx l.drops l.invariant.5 t.ensures,
     )
 
 pub returns : goal.returns

@@ -2,13 +2,13 @@ use mathlib.Core.Path.{ap, sym, subst, ◌∙◌}
 use Prim.Native.Nat.{ℕ, ◌/◌, ◌<◌}
 use lib.ListN.{get_or, length}
 use lib.Bits.{bit_xor}
-use Rattle.framing.proofs.ByTable.{table-inside, table_step}
+use Rattle.framing.proofs.ByTable.{table_inside, table_step}
 use Rattle.framing.proofs.crc.step_by_table.Goals as goal
 
 pub bounds-table-index : goal.bounds-table-index
 bounds-table-index c =
     let t = c.args.table.now in
-    subst (λ (x : ℕ). x < length t) (sym c.index.ensures) (table-inside t c.requires (bit_xor c.args.seed c.args.b))
+    subst (λ (x : ℕ). x < length t) (sym c.index.ensures) (table_inside t c.requires (bit_xor c.args.seed c.args.b))
 
 pub returns : goal.returns
 returns c =

@@ -9,9 +9,9 @@ use Rattle.framing.specs.Rfc1662.{frame}
 use Rattle.options.specs.Wire.{content_of}
 use Rattle.options.specs.declared.wire.Packet.{Packet}
 use Rattle.negotiation.specs.Replies.{max_replies}
-use Rattle.negotiation.proofs.Joining.{short-at}
+use Rattle.negotiation.proofs.Joining.{short_at}
 use Rattle.link.specs.Frames.{every_byte}
-use Rattle.link.proofs.Sending.{frames_from, frames-next, length-next, frames-end}
+use Rattle.link.proofs.Sending.{frames_from, frames-next, length-next, frames_end}
 use Rattle.link.proofs.frames.put_replies.Goals as goal
 
 pub put_reply-at-requires : goal.put_reply-at-requires
@@ -22,7 +22,7 @@ put_reply-at-requires c =
     let h : l.k < c.args.rs.count = omega arith in
     let m : l.k < length c.args.rs.packets = omega (arith, long, c.requires.0.few) in
     let e = length-next c.args.rs l.k d h m in
-    (short-at c.args.rs l.k d h m c.requires.0, omega (arith, e, c.requires.1, l.invariant.1, l.invariant.2))
+    (short_at c.args.rs l.k d h m c.requires.0, omega (arith, e, c.requires.1, l.invariant.1, l.invariant.2))
 
 pub loop-k-preserved : goal.loop-k-preserved
 loop-k-preserved c =
@@ -42,5 +42,5 @@ loop-k-preserved c =
     )
 
 pub returns : goal.returns
-returns c = let e = frames-end c.args.rs c.loop-k.k (omega arith) in
+returns c = let e = frames_end c.args.rs c.loop-k.k (omega arith) in
     (omega (arith, ap length e, c.loop-k.invariant.2), rw e at c.loop-k.invariant.3)

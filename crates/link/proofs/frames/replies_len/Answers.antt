@@ -5,7 +5,7 @@ use Prim.Native.Nat.{◌<◌}
 use native.Mathlib.Omega.{arith}
 use lib.ListN.{length}
 use Rattle.negotiation.specs.Replies.{max_replies}
-use Rattle.link.proofs.Sending.{length-next, frames-end}
+use Rattle.link.proofs.Sending.{length-next, frames_end}
 use Rattle.link.proofs.frames.replies_len.Goals as goal
 
 pub loop-k-preserved : goal.loop-k-preserved
@@ -17,5 +17,5 @@ loop-k-preserved c =
     (omega arith, omega (arith, c.reply_len-n.ensures.1), omega (arith, e, c.reply_len-n.ensures.0, l.invariant.2))
 
 pub returns : goal.returns
-returns c = let e = ap length (frames-end c.args.rs c.loop-k.k (omega arith)) in
+returns c = let e = ap length (frames_end c.args.rs c.loop-k.k (omega arith)) in
     omega (arith, e, c.loop-k.invariant.2)

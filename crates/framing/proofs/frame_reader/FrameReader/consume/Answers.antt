@@ -4,7 +4,7 @@ use native.Mathlib.Omega.{arith}
 use lib.ListN.{length, drop, get_or}
 use Rattle.framing.specs.Reader.{held, full}
 use Rattle.framing.proofs.Reader.{Kept, step_kept, fed_stop, fed-next, fed_end, consumes_short, consumes_at}
-use Rattle.framing.proofs.Dropping.{counted_next, counted_stop, counted-end, dropped_short, dropped-drops}
+use Rattle.framing.proofs.Dropping.{counted_next, counted_stop, counted_end, dropped_short, dropped-drops}
 use Rattle.framing.proofs.frame_reader.FrameReader.consume.Goals as goal
 
 pub returns-then-buf-len-clause-consumes : goal.returns-then-buf-len-clause-consumes
@@ -56,4 +56,4 @@ pub returns-clause-drops_value : goal.returns-clause-drops_value
 returns-clause-drops_value c =
     let a = c.args in
     let s = held c.loop-i.r c.loop-i.buf in
-    let first = held a.self a.buf.now in counted-end a.src.now c.loop-i.invariant.3 (omega arith) ∙ sym (dropped-drops first a.src.now c.if-buf-len.false)
+    let first = held a.self a.buf.now in counted_end a.src.now c.loop-i.invariant.3 (omega arith) ∙ sym (dropped-drops first a.src.now c.if-buf-len.false)

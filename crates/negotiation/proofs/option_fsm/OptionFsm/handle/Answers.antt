@@ -1,6 +1,6 @@
 use Rattle.std.proofs.Common.{ℕ, ◌+◌, ap, arith, rules, lt-ltb}
 use Rattle.negotiation.specs.Automaton.{handle_of}
-use Rattle.negotiation.proofs.Automata.{handle-over, handle-in}
+use Rattle.negotiation.proofs.Automata.{handle-over, handle_in}
 use Rattle.negotiation.proofs.option_fsm.OptionFsm.handle.Goals as goal
 
 pub returns-then-p-lt6 : goal.returns-then-p-lt6
@@ -13,4 +13,4 @@ returns-then-p-n c = let a = c.args in
 
 pub returns : goal.returns
 returns c = let a = c.args in
-    handle-in a.self a.p.now (omega arith) (ap (λ (x : ℕ). x + 2) c.length_in.ensures) (omega arith) c.act.ensures
+    handle_in a.self a.p.now (omega arith) (ap (λ (x : ℕ). x + 2) c.length_in.ensures) (omega arith) c.act.ensures

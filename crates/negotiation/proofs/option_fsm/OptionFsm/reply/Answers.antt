@@ -1,5 +1,5 @@
 use Rattle.std.proofs.Common.{sym, ◌∙◌}
-use Rattle.negotiation.proofs.Automata.{req_refused, req-resent, req-kept, one_reply}
+use Rattle.negotiation.proofs.Automata.{req_refused, req_resent, req_kept, one_reply}
 use Rattle.negotiation.proofs.option_fsm.OptionFsm.reply.Goals as goal
 
 pub returns-in-Refused : goal.returns-in-Refused
@@ -9,7 +9,7 @@ returns-in-Refused c = let a = c.args in
 pub returns-then-is_opened : goal.returns-then-is_opened
 returns-then-is_opened c =
     let a = c.args in
-    req-resent a.self a.id a.r c.in_default.is c.after_reply-f.ensures
+    req_resent a.self a.id a.r c.in_default.is c.after_reply-f.ensures
     (one_reply _ c.none.ensures.0 c.reply_packet.ensures c.add-replies.ensures)
     (sym c.is_opened.ensures ∙ c.if-is_opened.true)
     c.send_configure_request.ensures  -- notes ['is_opened_lem']
@@ -17,6 +17,6 @@ returns-then-is_opened c =
 pub returns : goal.returns
 returns c =
     let a = c.args in
-    req-kept a.self a.id a.r c.in_default.is c.after_reply-f.ensures
+    req_kept a.self a.id a.r c.in_default.is c.after_reply-f.ensures
     (one_reply _ c.none.ensures.0 c.reply_packet.ensures c.add-replies.ensures)
     (sym c.is_opened.ensures ∙ c.if-is_opened.false)  -- notes ['is_opened_lem']

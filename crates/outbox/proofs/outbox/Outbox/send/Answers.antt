@@ -2,12 +2,12 @@ use native.Mathlib.Omega.{arith}
 use mathlib.Core.Path.{ap, sym, ◌∙◌}
 use Rattle.outbox.specs.Outbox.{as_send, content}
 use Rattle.outbox.proofs.Contents.{first_le, length-content, reach_le}
-use Rattle.outbox.proofs.Sending.{idle_is, send-short, send-none, send-down, send-up, answer_is}
+use Rattle.outbox.proofs.Sending.{idle_is, send_short, send-none, send_down, send-up, answer_is}
 use Rattle.outbox.proofs.outbox.Outbox.send.Goals as goal
 
 pub returns-then-buf-self : goal.returns-then-buf-self
 returns-then-buf-self c = let a = c.args in
-    sym (send-short a.self a.l a.buf.now a.tx.now (omega arith))
+    sym (send_short a.self a.l a.buf.now a.tx.now (omega arith))
 
 pub returns-then-self-eq0 : goal.returns-then-self-eq0
 returns-then-self-eq0 c = let a = c.args in
@@ -15,7 +15,7 @@ returns-then-self-eq0 c = let a = c.args in
 
 pub returns-then-not-up : goal.returns-then-not-up
 returns-then-not-up c = let a = c.args in
-    idle_is a.tx.now c.idle-then-not-up.ensures ∙ sym (send-down a.self a.l a.buf.now a.tx.now (omega arith) (λ z. omega arith) (sym c.up.ensures ∙ c.if-not-up.true))
+    idle_is a.tx.now c.idle-then-not-up.ensures ∙ sym (send_down a.self a.l a.buf.now a.tx.now (omega arith) (λ z. omega arith) (sym c.up.ensures ∙ c.if-not-up.true))
 
 pub answer-requires : goal.answer-requires
 answer-requires c =

@@ -4,7 +4,7 @@ use Prim.Native.Nat.{◌+◌, ◌-◌}
 use lib.ListN.{take, drop}
 use lib.Seq.{length-take-le}
 use Rattle.outbox.specs.Ring.{around}
-use Rattle.outbox.proofs.Contents.{first_fits, front-one, front-two}
+use Rattle.outbox.proofs.Contents.{first_fits, front_one, front_two}
 use Rattle.outbox.proofs.Sending.{sends_as}
 use Rattle.outbox.proofs.outbox.Outbox.send_front.Goals as goal
 
@@ -20,7 +20,7 @@ returns-then-n-room c =
     let buf = a.buf.now in
     let from = c.place-from.result in
     let fit : from + a.n - from ≡ a.n = omega arith in
-    sends_as (ap (λ m. take m (drop from buf)) fit ∙ front-one a.self buf c.requires.0 a.n from c.requires.1 (omega arith) (c.place-from.ensures.0 ∙ ap (λ x. around a.self.size (x + 2)) c.start.ensures.0) (omega (arith, c.if-n-room.true, c.place-from.ensures.1)))
+    sends_as (ap (λ m. take m (drop from buf)) fit ∙ front_one a.self buf c.requires.0 a.n from c.requires.1 (omega arith) (c.place-from.ensures.0 ∙ ap (λ x. around a.self.size (x + 2)) c.start.ensures.0) (omega (arith, c.if-n-room.true, c.place-from.ensures.1)))
     c.send-then-n-room.ensures
 
 pub slice_bounds-send_parts-length-2 : goal.slice_bounds-send_parts-length-2
@@ -34,5 +34,5 @@ returns c =
     let a = c.args in
     let buf = a.buf.now in
     let from = c.place-from.result in
-    sends_as (front-two a.self buf c.requires.0 a.n from c.requires.1 (omega arith) (c.place-from.ensures.0 ∙ ap (λ x. around a.self.size (x + 2)) c.start.ensures.0) (omega (arith, c.if-n-room.false, c.place-from.ensures.1)))
+    sends_as (front_two a.self buf c.requires.0 a.n from c.requires.1 (omega arith) (c.place-from.ensures.0 ∙ ap (λ x. around a.self.size (x + 2)) c.start.ensures.0) (omega (arith, c.if-n-room.false, c.place-from.ensures.1)))
     c.send_parts.ensures

@@ -1,15 +1,15 @@
 use mathlib.Core.Path.{sym, ◌∙◌}
-use Rattle.phases.proofs.Phasing.{turns-refused, turns-rested, turns-done}
+use Rattle.phases.proofs.Phasing.{turns_refused, turns_rested, turns-done}
 use Rattle.phases.proofs.ppp.Ppp.turn.Goals as goal
 
 pub returns-in-Refused : goal.returns-in-Refused
 returns-in-Refused c = let a = c.args in
-    turns-refused a.self a.pkt.now c.received-t.ensures c.in-Refused.is c.refuse.ensures
+    turns_refused a.self a.pkt.now c.received-t.ensures c.in-Refused.is c.refuse.ensures
 
 pub returns-then-rests : goal.returns-then-rests
 returns-then-rests c =
     let a = c.args in
-    turns-rested a.self a.pkt.now c.received-t.ensures c.in_default.is (sym c.rests.ensures ∙ c.if-rests.true)
+    turns_rested a.self a.pkt.now c.received-t.ensures c.in_default.is (sym c.rests.ensures ∙ c.if-rests.true)
 
 pub returns : goal.returns
 returns c =
