@@ -11,7 +11,8 @@ mod wire;
 
 use crate::meeting::{Pair, meet};
 use crate::tally::Tally;
-use libc::STDIN_FILENO;
+use std::io;
+use streams::read_full;
 
 // A meeting for each byte.
 fn meet_each(src: &[u8], wa: &mut [u8], wb: &mut [u8], ra: &mut [u8], rb: &mut [u8]) -> Tally {
@@ -27,9 +28,9 @@ fn meet_each(src: &[u8], wa: &mut [u8], wb: &mut [u8], ra: &mut [u8], rb: &mut [
     t
 }
 
-fn main() {
-    let mut input = io::large_buffer();
-    let n = io::read_full(STDIN_FILENO, &mut input);
+fn main(rt: HostRuntime) -> io::Result<()> {
+    let mut input = [0u8; 65536];
+    let n = read_full(&mut rt.stdin(), &mut input)?;
     // No meeting writes so much that a transmit buffer behind it is short.
     let mut wa = [0u8; 2048];
     let mut wb = [0u8; 2048];
@@ -37,5 +38,5 @@ fn main() {
     let mut ra = [0u8; 27];
     let mut rb = [0u8; 27];
     let t = meet_each(&input[..n], &mut wa, &mut wb, &mut ra, &mut rb);
-    t.show();
+    t.show(&rt)
 }

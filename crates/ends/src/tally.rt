@@ -5,10 +5,10 @@ use crate::end::End;
 use crate::meeting::Pair;
 use crate::offer::{Known, knows};
 use crate::wire::{frames, front, plus};
-use libc::STDOUT_FILENO;
 use link::pppos::PPPoS;
 use negotiation::states::is_opened;
 use phases::ppp::Phase;
+use std::io;
 
 // Meetings; ends that are open, and that know the other's values as offered; refused calls, steps that took nothing, ids that passed
 // 255. Then, by how many ends offer name servers: how many ends, and the fewest and the most frames that one wrote.
@@ -45,10 +45,8 @@ fn plus_if(n: usize, yes: bool) -> usize {
     if yes { plus(n, 1) } else { n }
 }
 
-fn line(name: &[u8], n: usize) {
-    io::write_all(STDOUT_FILENO, name);
-    io::print_decimal(STDOUT_FILENO, n as u64);
-    io::write_all(STDOUT_FILENO, b"\n");
+fn line(rt: &impl Print, name: &str, n: usize) -> io::Result<()> {
+    println!(rt; "{name}{n}")
 }
 
 impl Tally {
@@ -116,32 +114,42 @@ impl Tally {
     }
 
     // What the ends wrote, by how many of them offer name servers.
-    fn show_frames(self, name: &[u8], k: usize)
+    fn show_frames(self, rt: &impl Print, name: &str, k: usize) -> io::Result<()>
         requires { k < 3 }
     {
         let ends = self.ends;
         let least = self.least;
         let most = self.most;
         if 0 < ends[k] {
-            io::write_all(STDOUT_FILENO, name);
-            line(b" ends: ", ends[k]);
-            line(b"    fewest frames written by one: ", least[k]);
-            line(b"    most: ", most[k]);
+            rt.print(name)?;
+            line(rt, " ends: ", ends[k])?;
+            line(rt, "    fewest frames written by one: ", least[k])?;
+            line(rt, "    most: ", most[k])?;
         }
+        Ok(())
     }
 
-    pub(crate) fn show(self) {
-        line(b"meetings of two ends: ", self.meetings);
+    pub(crate) fn show(self, rt: &impl Print) -> io::Result<()> {
+        line(rt, "meetings of two ends: ", self.meetings)?;
         line(
-            b"ends in phase Open with LCP and IPv4CP Opened: ",
+            rt,
+            "ends in phase Open with LCP and IPv4CP Opened: ",
             self.opened,
-        );
-        line(b"ends that know map and address as offered: ", self.offered);
-        line(b"refused calls: ", self.refused);
-        line(b"steps that were handed bytes and took none: ", self.stuck);
-        line(b"ids that passed 255: ", self.rounds);
-        self.show_frames(b"no end offers name servers,", 0);
-        self.show_frames(b"one end offers name servers,", 1);
-        self.show_frames(b"both ends offer name servers,", 2);
+        )?;
+        line(
+            rt,
+            "ends that know map and address as offered: ",
+            self.offered,
+        )?;
+        line(rt, "refused calls: ", self.refused)?;
+        line(
+            rt,
+            "steps that were handed bytes and took none: ",
+            self.stuck,
+        )?;
+        line(rt, "ids that passed 255: ", self.rounds)?;
+        self.show_frames(rt, "no end offers name servers,", 0)?;
+        self.show_frames(rt, "one end offers name servers,", 1)?;
+        self.show_frames(rt, "both ends offer name servers,", 2)
     }
 }

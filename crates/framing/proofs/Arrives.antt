@@ -21,7 +21,7 @@ use Rattle.framing.specs.declared.frame_reader.State.TheVariants.{Start, Address
 use Rattle.framing.specs.declared.frame_reader.Reading.{Reading}
 use Rattle.framing.proofs.Stuffing.{stuffed_without}
 use Rattle.framing.proofs.Unstuffing.{control_on, control_length, stuffed-fields, unescaped-stuffed, aborted-stuffed, doubled-stuffed}
-use Rattle.framing.proofs.Inside.{inside, keeps, whole, closes}
+use Rattle.framing.proofs.Inside.{inside, keeps, closes}
 use Rattle.framing.proofs.Good.{control_good, control_packet}
 use Rattle.framing.proofs.Heard.{heard_quiet, heard_last}
 use Rattle.framing.proofs.Reader.{fed_stop, fed_quiet}

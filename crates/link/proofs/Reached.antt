@@ -2,8 +2,6 @@
 -- Assumes nothing.
 use mathlib.Core.Path.{◌≡◌, ap, ◌∙◌}
 use mathlib.Core.Bool.{◌||◌}
-use mathlib.Core.List.{List}
-use Prim.Native.Nat.{ℕ}
 use Rattle.framing.specs.Reader.{packet_of}
 use Rattle.phases.specs.Phases.{is_dead}
 use Rattle.phases.specs.Sound.{Sound}

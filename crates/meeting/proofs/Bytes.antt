@@ -17,7 +17,7 @@ use Rattle.phases.specs.declared.ppp.Ppp.{Ppp}
 use Rattle.options.specs.declared.refusal.Outcome.TheVariants as negotiation
 use Rattle.link.specs.Refusal.{outcome_number}
 use Rattle.link.specs.Frames.{frames, always_enough}
-use Rattle.link.specs.Link.{link_of, held_by, sent, is_ip, packet_poll, poll_link}
+use Rattle.link.specs.Link.{link_of, held_by, is_ip, packet_poll, poll_link}
 use Rattle.link.specs.declared.refusal.Outcome.{Outcome}
 use Rattle.link.specs.declared.pppos.PPPoS.{PPPoS}
 use Rattle.link.proofs.Hearing as hearing

@@ -1,6 +1,6 @@
 -- The table of states is what the definitions give, and what a step does.
 -- Assumes nothing.
-use Rattle.std.proofs.Common.{◌≡◌, ℕ, ◌+◌, ◌-◌, Bool, true, false, cond, not, ltb, List, [], ◌∷◌, ◌++◌, map, length, get_or, drop, sym, refl, subst, arith, length-append}
+use Rattle.std.proofs.Common.{◌≡◌, ℕ, ◌-◌, Bool, true, false, cond, not, ltb, List, [], ◌∷◌, ◌++◌, map, length, get_or, drop, sym, refl, subst, arith, length-append}
 use mathlib.Core.Bool.{false≢true}
 use lib.Seq.{get_or_at}
 use Rattle.laws.specs.Each.{Each}

@@ -1,12 +1,12 @@
 -- What a link keeps, from new on under every call.
 -- Assumes nothing.
-use mathlib.Core.Path.{◌≡◌, refl, ap, sym, ◌∙◌}
+use mathlib.Core.Path.{◌≡◌, ap, sym, ◌∙◌}
 use mathlib.Core.Bool.{true, false, true≢false, false≢true}
 use mathlib.Core.List.{List, [], ◌++◌}
 use Prim.Native.Nat.{ℕ, zero, suc, ◌+◌, ◌-◌, ◌≤◌, ◌<◌}
 use native.Mathlib.Omega.{arith}
 use borrow.Author.Tests.{le-leb, lt-ltb}
-use lib.Dec.{ltb, leb, eqb, lit<, lit≤}
+use lib.Dec.{ltb, eqb, lit<, lit≤}
 use lib.ListN.{length, drop, replicate, length-append, length-replicate}
 use Rattle.laws.specs.Each.{Bytes}
 use Rattle.laws.proofs.Each.{each_append}
@@ -23,12 +23,12 @@ use Rattle.negotiation.specs.Automaton.{is_closed, is_opened}
 use Rattle.negotiation.specs.Credentials.{max_credentials, fits_credentials}
 use Rattle.negotiation.specs.Auth.{is_auth_opened, auth_handle_of, opened_auth, closed_auth}
 use Rattle.negotiation.proofs.CredentialLaws.{fits_sum}
-use Rattle.phases.specs.Phases.{fresh_ppp, with_phase, with_opening, Turn, Step, reject_of, received_of, by_auth, establish_of, auth_of, network_of, by_phase, dies_of, settled, phase_of, poll_of, turn_of, is_dead, new_of}
+use Rattle.phases.specs.Phases.{fresh_ppp, with_phase, with_opening, Turn, Step, reject_of, received_of, by_auth, establish_of, auth_of, network_of, by_phase, dies_of, settled, phase_of, turn_of, is_dead, new_of}
 use Rattle.phases.specs.declared.ppp.Phase.{Phase}
 use Rattle.phases.specs.declared.ppp.Phase.TheVariants.{Dead, Establish, Auth, Network, Open}
 use Rattle.phases.specs.declared.ppp.Ppp.{Ppp}
 use Rattle.link.specs.Choices.{choices_of, Plain}
-use Rattle.link.specs.Link.{link_of, held_by, is_ip, poll_link, answered_poll}
+use Rattle.link.specs.Link.{link_of, held_by, is_ip, poll_link}
 use Rattle.link.specs.declared.choices.Choices.{Choices}
 use Rattle.link.specs.declared.pppos.PPPoS.{PPPoS}
 use Rattle.link.proofs.Leaving.{poll-leaves}

@@ -8,8 +8,9 @@ mod rounds;
 
 use crate::case::Case;
 use crate::rounds::{Sum, accept_rounds, both_rounds, fill, link_rounds, plain};
-use libc::{STDIN_FILENO, STDOUT_FILENO};
 use outbox::outbox::ALWAYS_ENOUGH;
+use std::io;
+use streams::read_full;
 
 fn measure(c: Case, peer: &[u8], pkt: &mut [u8], buf: &mut [u8]) -> Sum {
     let mut tx = [0u8; ALWAYS_ENOUGH];
@@ -24,16 +25,13 @@ fn measure(c: Case, peer: &[u8], pkt: &mut [u8], buf: &mut [u8]) -> Sum {
     both_rounds(o, peer, pkt, buf, &mut tx, c.rounds)
 }
 
-fn main() {
-    let mut text = io::buffer();
-    let n = io::read_full(STDIN_FILENO, &mut text);
+fn main(rt: HostRuntime) -> io::Result<()> {
+    let mut text = [0u8; 4096];
+    let n = read_full(&mut rt.stdin(), &mut text)?;
     let all = &text[..n];
     let c = Case::read(all);
     let mut room = [0u8; 1500];
-    let mut buf = io::large_buffer();
+    let mut buf = [0u8; 65536];
     let s = measure(c, c.behind(all), c.packet(&mut room), &mut buf);
-    io::print_decimal(STDOUT_FILENO, s.counts);
-    io::write_all(STDOUT_FILENO, b" ");
-    io::print_decimal(STDOUT_FILENO, s.bytes);
-    io::write_all(STDOUT_FILENO, b"\n");
+    println!(rt; "{} {}", s.counts, s.bytes)
 }

@@ -1,11 +1,10 @@
 -- Where a phase step does nothing.
 -- Assumes nothing.
 use mathlib.Core.Path.{◌≡◌, refl, ap, sym, ◌∙◌}
-use mathlib.Core.Bool.{true, false, not, ◌&&◌}
+use mathlib.Core.Bool.{true, false, not}
 use mathlib.Core.List.{[]}
 use borrow.Author.Tests.{not-true}
 use Rattle.laws.proofs.Cases.{both}
-use Rattle.negotiation.specs.declared.states.State.TheVariants.{Closed}
 use Rattle.negotiation.specs.Automaton.{is_closed, is_opened}
 use Rattle.negotiation.specs.Auth.{is_auth_closed, is_auth_opened}
 use Rattle.negotiation.proofs.Auths.{closes-same}

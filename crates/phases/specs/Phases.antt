@@ -1,5 +1,5 @@
 -- The link's phases (document 01, 'Negotiation'; ppp/mod.rs): a received packet, one phase step, and what shows of the state.
-use Rattle.std.specs.Prelude.{◌≡◌, Bool, true, false, cond, not, ◌&&◌, List, [], ◌++◌, ℕ, ◌+◌, ltb, eqb, length}
+use Rattle.std.specs.Prelude.{◌≡◌, Bool, true, false, cond, not, ◌&&◌, List, [], ◌++◌, ℕ, ltb, eqb, length}
 use Rattle.options.specs.Refusal.{is_done}
 use Rattle.options.specs.Wire.{protocol_in}
 use Rattle.negotiation.specs.Replies.{replies_of}

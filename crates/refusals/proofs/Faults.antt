@@ -13,7 +13,7 @@ use lib.ListN.{length, take, drop, get_or, length-drop}
 use Rattle.laws.specs.Same.{same}
 use Rattle.laws.proofs.Cases.{by_test, by_le}
 use Rattle.options.specs.Refusal.{outcome_number, outcome_values}
-use Rattle.options.specs.Options.{done, cut, opt, walk_from, walk_of, sent_back}
+use Rattle.options.specs.Options.{cut, opt, walk_from, walk_of, sent_back}
 use Rattle.options.specs.Lcp.{suggestion_lcp}
 use Rattle.options.specs.Proto.{start_of, suggestion_of, judge_of, own_nacked, nacks_of}
 use Rattle.options.specs.Reply.{rank_of, fresh_reply, step_of, reply_of}

@@ -1,5 +1,6 @@
 // Lines: bytes are gathered up to a line feed.
 use crate::world::lent;
+use std::io::{self, Read};
 
 // The bytes from `from` up to `to` have arrived and are not used yet. `len` counts the characters of the line so far; a count
 // above the line's room says that it is too long. The end of the input ends a line as well.
@@ -48,28 +49,38 @@ fn gather(chunk: &[u8], from: usize, to: usize, line: &mut [u8], len: usize) -> 
 }
 
 // Nothing is the end of the input.
-fn arrived(chunk: &[u8], got: isize, line: &mut [u8], len: usize) -> Input {
-    let n = io::count(got, chunk);
-    if n == 0 {
+fn arrived(chunk: &[u8], got: usize, line: &mut [u8], len: usize) -> Input {
+    if got == 0 {
         return arrived_at(0, 0, len, true, true);
     }
-    gather(chunk, 0, n, line, len)
+    gather(chunk, 0, got, line, len)
 }
 
 // The next bytes of the input, read once all before them are used.
-fn bytes(chunk: &mut [u8], line: &mut [u8], i: Input, len: usize) -> Input {
+fn bytes<R: Read>(
+    input: &mut R,
+    chunk: &mut [u8],
+    line: &mut [u8],
+    i: Input,
+    len: usize,
+) -> io::Result<Input> {
     let from = i.from;
     let to = i.to;
     if from < to {
-        return gather(chunk, from, to, line, len);
+        return Ok(gather(chunk, from, to, line, len));
     }
-    let got = libc::read(libc::STDIN_FILENO, chunk);
-    arrived(chunk, got, line, len)
+    let got = input.read(chunk)?;
+    Ok(arrived(chunk, got, line, len))
 }
 
-pub(crate) fn more(chunk: &mut [u8], line: &mut [u8], i: Input) -> Input {
+pub(crate) fn more<R: Read>(
+    input: &mut R,
+    chunk: &mut [u8],
+    line: &mut [u8],
+    i: Input,
+) -> io::Result<Input> {
     if i.whole {
-        return bytes(chunk, line, i, 0);
+        return bytes(input, chunk, line, i, 0);
     }
-    bytes(chunk, line, i, i.len)
+    bytes(input, chunk, line, i, i.len)
 }

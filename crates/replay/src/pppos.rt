@@ -12,6 +12,7 @@ use link::choices::Choices;
 use link::pppos::{PPPoS, PPPoSAction, ip_packet};
 use link::refusal::{Outcome, Refusal};
 use status_lines::status::{MAX_LINES, lines};
+use std::io;
 
 // The link, and what its last consume dropped.
 #[derive(Clone, Copy)]
@@ -54,41 +55,55 @@ pub(crate) fn started() -> Uplink {
     }
 }
 
-fn verdict(o: Outcome, at: usize, out: &mut [u8]) {
+fn verdict(rt: &impl Print, o: Outcome, at: usize, out: &mut [u8]) -> io::Result<()> {
     let at = say(out, at, b"!", &[refusal(o)]);
-    ended(out, at);
+    ended(rt, out, at)
 }
 
-fn made(c: Call, line: &[u8], out: &mut [u8]) -> PPPoS {
+fn made(rt: &impl Print, c: Call, line: &[u8], out: &mut [u8]) -> io::Result<PPPoS> {
     let name = given(line, c.a_at, c.a);
     let pass = given(line, c.b_at, c.b);
     let r = PPPoS::new(name, pass, Choices::plain(reading(c.c)));
     let o = r.outcome;
-    verdict(o, c.at, out);
-    r.link
+    verdict(rt, o, c.at, out)?;
+    Ok(r.link)
 }
 
-fn opened(link: PPPoS, at: usize, out: &mut [u8]) -> PPPoS {
+fn opened(rt: &impl Print, link: PPPoS, at: usize, out: &mut [u8]) -> io::Result<PPPoS> {
     let r = link.open();
     let o = r.outcome;
-    verdict(o, at, out);
-    r.link
+    verdict(rt, o, at, out)?;
+    Ok(r.link)
 }
 
-fn consumed(o: Outcome, count: usize, c: Call, rx: &[u8], out: &mut [u8]) {
+fn consumed(
+    rt: &impl Print,
+    o: Outcome,
+    count: usize,
+    c: Call,
+    rx: &[u8],
+    out: &mut [u8],
+) -> io::Result<()> {
     let at = say(out, c.at, b"! # rx=", &[refusal(o), count]);
     let at = buffer(out, at, rx, c.rx_fill);
-    ended(out, at);
+    ended(rt, out, at)
 }
 
-fn consume(link: PPPoS, c: Call, line: &[u8], rx: &mut [u8], out: &mut [u8]) -> Uplink {
+fn consume(
+    rt: &impl Print,
+    link: PPPoS,
+    c: Call,
+    line: &[u8],
+    rx: &mut [u8],
+    out: &mut [u8],
+) -> io::Result<Uplink> {
     let n = lent(rx, c.a);
     let r = link.consume(given(line, c.b_at, c.b), &mut rx[0..n]);
     let o = r.outcome;
-    consumed(o, r.count, c, &rx[0..n], out);
+    consumed(rt, o, r.count, c, &rx[0..n], out)?;
     let link = r.link;
     let drops = r.drops;
-    Uplink { link, drops }
+    Ok(Uplink { link, drops })
 }
 
 // Its name in `show::name`, and up to two numbers.
@@ -125,25 +140,46 @@ fn action_of(a: PPPoSAction) -> Action {
 }
 
 // What a poll says, and the buffers that it was lent.
-fn told(a: Action, c: Call, tx: &[u8], rx: &[u8], out: &mut [u8]) {
+fn told(
+    rt: &impl Print,
+    a: Action,
+    c: Call,
+    tx: &[u8],
+    rx: &[u8],
+    out: &mut [u8],
+) -> io::Result<()> {
     let at = say(out, c.at, b"$** tx=", &[a.name, a.a, a.b]);
     let at = buffer(out, at, tx, c.tx_fill);
     let at = text(out, at, b" rx=");
     let at = buffer(out, at, rx, c.rx_fill);
-    ended(out, at);
+    ended(rt, out, at)
 }
 
-fn polled(link: PPPoS, c: Call, tx: &mut [u8], rx: &mut [u8], out: &mut [u8]) -> PPPoS {
+fn polled(
+    rt: &impl Print,
+    link: PPPoS,
+    c: Call,
+    tx: &mut [u8],
+    rx: &mut [u8],
+    out: &mut [u8],
+) -> io::Result<PPPoS> {
     let p = link.poll(tx, rx);
     let a = p.action;
-    told(action_of(a), c, tx, rx, out);
-    p.link
+    told(rt, action_of(a), c, tx, rx, out)?;
+    Ok(p.link)
 }
 
-fn poll(link: PPPoS, c: Call, tx: &mut [u8], rx: &mut [u8], out: &mut [u8]) -> PPPoS {
+fn poll(
+    rt: &impl Print,
+    link: PPPoS,
+    c: Call,
+    tx: &mut [u8],
+    rx: &mut [u8],
+    out: &mut [u8],
+) -> io::Result<PPPoS> {
     let n = lent(tx, c.a);
     let m = lent(rx, c.b);
-    polled(link, c, &mut tx[0..n], &mut rx[0..m], out)
+    polled(rt, link, c, &mut tx[0..n], &mut rx[0..m], out)
 }
 
 // A refused call's count is 0, and it is not shown.
@@ -154,12 +190,19 @@ fn sent(out: &mut [u8], at: usize, o: Outcome, count: usize) -> usize {
     }
 }
 
-fn send(link: PPPoS, c: Call, src: &[u8], tx: &mut [u8], out: &mut [u8]) {
+fn send(
+    rt: &impl Print,
+    link: PPPoS,
+    c: Call,
+    src: &[u8],
+    tx: &mut [u8],
+    out: &mut [u8],
+) -> io::Result<()> {
     let s = link.send(src, tx);
     let o = s.outcome;
     let at = sent(out, c.at, o, s.count);
     let at = buffer(out, at, tx, c.tx_fill);
-    ended(out, at);
+    ended(rt, out, at)
 }
 
 // Where the part that the call answers begins: a range that runs backwards or past the end is the empty one at the start.
@@ -207,61 +250,77 @@ fn shown(link: PPPoS, c: Call, rx: &[u8], out: &mut [u8]) -> usize {
 }
 
 // The calls that leave the link as it is.
-fn told_of(link: PPPoS, c: Call, line: &[u8], tx: &mut [u8], rx: &[u8], out: &mut [u8]) {
+fn told_of(
+    rt: &impl Print,
+    link: PPPoS,
+    c: Call,
+    line: &[u8],
+    tx: &mut [u8],
+    rx: &[u8],
+    out: &mut [u8],
+) -> io::Result<()> {
     if c.number == call::SEND {
         let n = lent(tx, c.a);
-        send(link, c, given(line, c.b_at, c.b), &mut tx[0..n], out);
-        return;
+        return send(rt, link, c, given(line, c.b_at, c.b), &mut tx[0..n], out);
     }
     let at = shown(link, c, rx, out);
-    ended(out, at);
+    ended(rt, out, at)
 }
 
-fn anew(c: Call, line: &[u8], out: &mut [u8]) -> PPPoS {
+fn anew(rt: &impl Print, c: Call, line: &[u8], out: &mut [u8]) -> io::Result<PPPoS> {
     if c.number == call::RESET {
-        return fresh();
+        return Ok(fresh());
     }
-    made(c, line, out)
+    made(rt, c, line, out)
 }
 
 // The calls that keep what the last consume dropped.
-fn kept(link: PPPoS, c: Call, line: &[u8], tx: &mut [u8], rx: &mut [u8], out: &mut [u8]) -> PPPoS {
+fn kept(
+    rt: &impl Print,
+    link: PPPoS,
+    c: Call,
+    line: &[u8],
+    tx: &mut [u8],
+    rx: &mut [u8],
+    out: &mut [u8],
+) -> io::Result<PPPoS> {
     let k = c.number;
     match k {
-        call::OPEN => opened(link, c.at, out),
-        call::POLL => poll(link, c, tx, rx, out),
+        call::OPEN => opened(rt, link, c.at, out),
+        call::POLL => poll(rt, link, c, tx, rx, out),
         call::SEND..=call::DUMP => {
-            told_of(link, c, line, tx, rx, out);
-            link
+            told_of(rt, link, c, line, tx, rx, out)?;
+            Ok(link)
         }
-        _ => link,
+        _ => Ok(link),
     }
 }
 
 pub(crate) fn linked(
+    rt: &impl Print,
     l: Uplink,
     c: Call,
     line: &[u8],
     tx: &mut [u8],
     rx: &mut [u8],
     out: &mut [u8],
-) -> Uplink {
+) -> io::Result<Uplink> {
     let link = l.link;
     let drops = l.drops;
     let k = c.number;
     match k {
-        call::RESET | call::NEW => Uplink {
-            link: anew(c, line, out),
+        call::RESET | call::NEW => Ok(Uplink {
+            link: anew(rt, c, line, out)?,
             drops: Drops::none(),
-        },
-        call::CONSUME => consume(link, c, line, rx, out),
+        }),
+        call::CONSUME => consume(rt, link, c, line, rx, out),
         call::DROPS => {
-            dropped(drops, c.at, out);
-            l
+            dropped(rt, drops, c.at, out)?;
+            Ok(l)
         }
-        _ => Uplink {
-            link: kept(link, c, line, tx, rx, out),
+        _ => Ok(Uplink {
+            link: kept(rt, link, c, line, tx, rx, out)?,
             drops,
-        },
+        }),
     }
 }

@@ -3,6 +3,8 @@ ghost use Rattle.std.specs.Prelude.{◌≤◌, length};
 
 use crate::word::{NONE, nth};
 use crate::world::lent;
+use itoa::Buffer;
+use std::io;
 
 // A character that finds no room is dropped.
 pub(crate) fn put(out: &mut [u8], at: usize, c: u8) -> usize {
@@ -71,21 +73,20 @@ pub(crate) fn buffer(out: &mut [u8], at: usize, s: &[u8], fill: u8) -> usize {
 }
 
 // The answer's end, and its way out.
-pub(crate) fn ended(out: &mut [u8], at: usize) {
+pub(crate) fn ended(rt: &impl Print, out: &mut [u8], at: usize) -> io::Result<()> {
     let at = put(out, at, b'\n');
     let n = lent(out, at);
-    io::write_all(libc::STDOUT_FILENO, &out[0..n]);
+    rt.write_all(&out[0..n])
 }
 
-pub(crate) fn ok(out: &mut [u8], at: usize) {
+pub(crate) fn ok(rt: &impl Print, out: &mut [u8], at: usize) -> io::Result<()> {
     let at = text(out, at, b"ok");
-    ended(out, at);
+    ended(rt, out, at)
 }
 
 fn number(out: &mut [u8], at: usize, n: usize) -> usize {
-    let mut digits = [0u8; 20];
-    let k = io::decimal(n as u64, &mut digits);
-    text(out, at, &digits[..k])
+    let mut digits = Buffer::new();
+    text(out, at, digits.format(n).as_bytes())
 }
 
 // As many of the last hex digits as `unit` has.

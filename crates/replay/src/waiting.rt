@@ -7,6 +7,7 @@ use crate::world::{fill, front, given, lent};
 use link::pppos::PPPoS;
 use outbox::outbox::Outbox;
 use outbox::refusal::Outcome;
+use std::io;
 
 // Before the first `obnew` there is no room.
 pub(crate) fn empty() -> Outbox {
@@ -21,7 +22,7 @@ fn refusal(o: Outcome) -> usize {
 }
 
 // All of the buffer becomes 00. `reset` has no length, so that its outbox has no room, and is answered elsewhere.
-fn made(c: Call, buf: &mut [u8], out: &mut [u8]) -> Outbox {
+fn made(rt: &impl Print, c: Call, buf: &mut [u8], out: &mut [u8]) -> io::Result<Outbox> {
     fill(buf, buf.len(), 0);
     let o = Outbox::new(front(buf, c.a));
     if c.number == call::OBNEW {
@@ -31,9 +32,9 @@ fn made(c: Call, buf: &mut [u8], out: &mut [u8]) -> Outbox {
             b"ok size=# held=# free=#",
             &[o.size(), o.held(), o.free()],
         );
-        ended(out, at);
+        ended(rt, out, at)?;
     }
-    o
+    Ok(o)
 }
 
 // What a call says, with its count if there is one, and the outbox that it leaves.
@@ -46,13 +47,20 @@ fn told(out: &mut [u8], at: usize, refused: usize, count: usize, o: Outbox) -> u
     )
 }
 
-fn accept(o: Outbox, at: usize, pkt: &[u8], buf: &mut [u8], out: &mut [u8]) -> Outbox {
+fn accept(
+    rt: &impl Print,
+    o: Outbox,
+    at: usize,
+    pkt: &[u8],
+    buf: &mut [u8],
+    out: &mut [u8],
+) -> io::Result<Outbox> {
     let r = o.accept(pkt, buf);
     let why = r.outcome;
     let o = r.outbox;
     let at = told(out, at, refusal(why), NONE, o);
-    ended(out, at);
-    o
+    ended(rt, out, at)?;
+    Ok(o)
 }
 
 // A refused call's count is 0, and it is not shown.
@@ -60,45 +68,69 @@ fn counted(refused: usize, count: usize) -> usize {
     if refused == 0 { count } else { NONE }
 }
 
-fn sent(out: &mut [u8], c: Call, refused: usize, count: usize, o: Outbox, tx: &[u8]) {
+fn sent(
+    rt: &impl Print,
+    out: &mut [u8],
+    c: Call,
+    refused: usize,
+    count: usize,
+    o: Outbox,
+    tx: &[u8],
+) -> io::Result<()> {
     let at = told(out, c.at, refused, counted(refused, count), o);
     let at = text(out, at, b" tx=");
     let at = buffer(out, at, tx, c.tx_fill);
-    ended(out, at);
+    ended(rt, out, at)
 }
 
-fn send(o: Outbox, link: PPPoS, c: Call, buf: &[u8], tx: &mut [u8], out: &mut [u8]) -> Outbox {
+fn send(
+    rt: &impl Print,
+    o: Outbox,
+    link: PPPoS,
+    c: Call,
+    buf: &[u8],
+    tx: &mut [u8],
+    out: &mut [u8],
+) -> io::Result<Outbox> {
     let r = o.send(link, buf, tx);
     let why = r.outcome;
     let o = r.outbox;
-    sent(out, c, refusal(why), r.count, o, tx);
-    o
+    sent(rt, out, c, refusal(why), r.count, o, tx)?;
+    Ok(o)
 }
 
-fn shown(c: Call, buf: &[u8], out: &mut [u8]) {
+fn shown(rt: &impl Print, c: Call, buf: &[u8], out: &mut [u8]) -> io::Result<()> {
     let at = buffer(out, c.at, buf, 0);
-    ended(out, at);
+    ended(rt, out, at)
 }
 
 // The calls that need no link.
-fn kept(o: Outbox, c: Call, line: &[u8], buf: &mut [u8], out: &mut [u8]) -> Outbox {
+fn kept(
+    rt: &impl Print,
+    o: Outbox,
+    c: Call,
+    line: &[u8],
+    buf: &mut [u8],
+    out: &mut [u8],
+) -> io::Result<Outbox> {
     let k = c.number;
     match k {
-        call::RESET | call::OBNEW => made(c, buf, out),
+        call::RESET | call::OBNEW => made(rt, c, buf, out),
         call::OBACCEPT => {
             let n = lent(buf, c.a);
-            accept(o, c.at, given(line, c.b_at, c.b), &mut buf[0..n], out)
+            accept(rt, o, c.at, given(line, c.b_at, c.b), &mut buf[0..n], out)
         }
         call::OBBUF => {
-            shown(c, front(buf, c.a), out);
-            o
+            shown(rt, c, front(buf, c.a), out)?;
+            Ok(o)
         }
-        _ => o,
+        _ => Ok(o),
     }
 }
 
 // The outbox's buffer lies behind the reader's.
 pub(crate) fn run(
+    rt: &impl Print,
     o: Outbox,
     link: PPPoS,
     c: Call,
@@ -106,11 +138,11 @@ pub(crate) fn run(
     tx: &mut [u8],
     rx: &mut [u8],
     out: &mut [u8],
-) -> Outbox {
+) -> io::Result<Outbox> {
     let from = lent(rx, 8192);
     if c.number == call::OBSEND {
         let n = lent(tx, c.b);
-        return send(o, link, c, front(&rx[from..], c.a), &mut tx[0..n], out);
+        return send(rt, o, link, c, front(&rx[from..], c.a), &mut tx[0..n], out);
     }
-    kept(o, c, line, &mut rx[from..], out)
+    kept(rt, o, c, line, &mut rx[from..], out)
 }

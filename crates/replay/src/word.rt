@@ -62,7 +62,7 @@ pub(crate) fn which(list: &[u8], word: &[u8]) -> usize {
     let mut k = 0;
     while k < list.len() {
         let w = next(list, at);
-        if check::same(part(list, w), word) {
+        if part(list, w) == word {
             return k;
         }
         at = w.to;
@@ -147,7 +147,7 @@ pub(crate) fn bytes(line: &mut [u8], w: Word) -> usize {
     if to <= from {
         return NONE;
     }
-    if check::same(&line[from..to], b"-") {
+    if &line[from..to] == b"-".as_slice() {
         return 0;
     }
     pairs(&mut line[from..to])

@@ -4,6 +4,7 @@ use crate::show::{buffer, ended, ok, say};
 use crate::world::{World, fill, given, lent};
 use framing::frame_writer::{FrameWriter, Wrote};
 use framing::refusal::Outcome;
+use std::io;
 
 pub(crate) fn refusal(o: Outcome) -> usize {
     match o {
@@ -12,14 +13,14 @@ pub(crate) fn refusal(o: Outcome) -> usize {
     }
 }
 
-fn made(mut w: World, buf: &mut [u8], out: &mut [u8]) -> World {
+fn made(rt: &impl Print, mut w: World, buf: &mut [u8], out: &mut [u8]) -> io::Result<World> {
     let c = w.call;
     let writer = FrameWriter::new_with_asyncmap((c.b % 0x1_0000_0000) as u32);
     fill(buf, c.a, w.tx_fill);
-    ok(out, c.at);
+    ok(rt, out, c.at)?;
     w.writer = writer;
     w.writer_room = c.a;
-    w
+    Ok(w)
 }
 
 fn step(writer: FrameWriter, k: usize, src: &[u8], buf: &mut [u8]) -> Wrote {
@@ -31,7 +32,14 @@ fn step(writer: FrameWriter, k: usize, src: &[u8], buf: &mut [u8]) -> Wrote {
 }
 
 // A call's answer, and the writer that it leaves.
-fn left(r: Wrote, at: usize, buf: &[u8], fill: u8, out: &mut [u8]) -> FrameWriter {
+fn left(
+    rt: &impl Print,
+    r: Wrote,
+    at: usize,
+    buf: &[u8],
+    fill: u8,
+    out: &mut [u8],
+) -> io::Result<FrameWriter> {
     let o = r.outcome;
     let w = r.writer;
     let at = say(
@@ -41,24 +49,36 @@ fn left(r: Wrote, at: usize, buf: &[u8], fill: u8, out: &mut [u8]) -> FrameWrite
         &[refusal(o), w.len, w.crc as usize],
     );
     let at = buffer(out, at, buf, fill);
-    ended(out, at);
-    w
+    ended(rt, out, at)?;
+    Ok(w)
 }
 
-fn stepped(mut w: World, src: &[u8], buf: &mut [u8], out: &mut [u8]) -> World {
+fn stepped(
+    rt: &impl Print,
+    mut w: World,
+    src: &[u8],
+    buf: &mut [u8],
+    out: &mut [u8],
+) -> io::Result<World> {
     let c = w.call;
     let writer = w.writer;
     let r = step(writer, c.number, src, buf);
-    let writer = left(r, c.at, buf, w.tx_fill, out);
+    let writer = left(rt, r, c.at, buf, w.tx_fill, out)?;
     w.writer = writer;
-    w
+    Ok(w)
 }
 
-pub(crate) fn run(w: World, line: &[u8], buf: &mut [u8], out: &mut [u8]) -> World {
+pub(crate) fn run(
+    rt: &impl Print,
+    w: World,
+    line: &[u8],
+    buf: &mut [u8],
+    out: &mut [u8],
+) -> io::Result<World> {
     let c = w.call;
     if c.number == call::WNEW {
-        return made(w, buf, out);
+        return made(rt, w, buf, out);
     }
     let n = lent(buf, w.writer_room);
-    stepped(w, given(line, c.a_at, c.a), &mut buf[0..n], out)
+    stepped(rt, w, given(line, c.a_at, c.a), &mut buf[0..n], out)
 }

@@ -13,7 +13,7 @@ fn is_packet(bytes: &[u8], n: usize) -> bool {
     }
     let mut room = [0u8; LONGEST];
     let p = packet(n, &mut room);
-    check::same(&bytes[2..], &p[..])
+    &bytes[2..] == &p[..]
 }
 
 // Whether the bytes are one frame, of packet `n`.

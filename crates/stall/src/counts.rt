@@ -1,5 +1,5 @@
 // What the calls answered since the start, as a row of a table.
-use libc::STDOUT_FILENO;
+use std::io;
 
 // Packets accepted, sent, and read at the other end as they were made; how often the front passed the buffer's end; sends that had
 // nothing to do; refusals by their number.
@@ -25,22 +25,15 @@ fn more_if(n: usize, yes: bool) -> usize {
 }
 
 // The rows' columns, and last the step after which a row stands.
-pub(crate) fn header() {
-    io::write_all(
-        STDOUT_FILENO,
-        b"accepted    sent    held    same   wraps    idle    no.3   no.14   no.15    no.1  after\n",
-    );
+pub(crate) fn header(rt: &impl Print) -> io::Result<()> {
+    rt.println(
+        "accepted    sent    held    same   wraps    idle    no.3   no.14   no.15    no.1  after",
+    )
 }
 
 // Eight places wide.
-fn cell(n: usize) {
-    let blank = [b' '; 8];
-    let mut text = [0u8; 20];
-    let k = io::decimal(n as u64, &mut text);
-    if k < 8 {
-        io::write_all(STDOUT_FILENO, &blank[k..]);
-    }
-    io::write_all(STDOUT_FILENO, &text[..k]);
+fn cell(rt: &impl Print, n: usize) -> io::Result<()> {
+    print!(rt; "{n:>8}")
 }
 
 impl Counts {
@@ -99,19 +92,17 @@ impl Counts {
         c
     }
 
-    pub(crate) fn show(self, held: usize, step: &[u8]) {
-        cell(self.accepted);
-        cell(self.sent);
-        cell(held);
-        cell(self.same);
-        cell(self.wraps);
-        cell(self.idle);
-        cell(self.no3);
-        cell(self.no14);
-        cell(self.no15);
-        cell(self.no1);
-        io::write_all(STDOUT_FILENO, b"  ");
-        io::write_all(STDOUT_FILENO, step);
-        io::write_all(STDOUT_FILENO, b"\n");
+    pub(crate) fn show(self, rt: &impl Print, held: usize, step: &str) -> io::Result<()> {
+        cell(rt, self.accepted)?;
+        cell(rt, self.sent)?;
+        cell(rt, held)?;
+        cell(rt, self.same)?;
+        cell(rt, self.wraps)?;
+        cell(rt, self.idle)?;
+        cell(rt, self.no3)?;
+        cell(rt, self.no14)?;
+        cell(rt, self.no15)?;
+        cell(rt, self.no1)?;
+        println!(rt; "  {step}")
     }
 }

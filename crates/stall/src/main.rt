@@ -16,59 +16,73 @@ use crate::queue::Queue;
 use crate::uplink::{not_open, opened};
 use link::pppos::PPPoS;
 use outbox::outbox::ALWAYS_ENOUGH;
+use std::io;
 
 const SIZE: usize = 4096;
 
-fn declined(q: Queue, buf: &mut [u8]) -> Queue {
+fn declined(rt: &impl Print, q: Queue, buf: &mut [u8]) -> io::Result<Queue> {
     let long = [0u8; LONGEST + 1];
     let mut short = [0u8; SIZE - 1];
     let q = q.accept(b"1", &mut short);
     let q = q.accept(b"", buf);
     let q = q.accept(&long, buf);
-    q.show(b"a buffer one byte short, a packet of 0 bytes, one of 1501");
-    q
+    q.show(
+        rt,
+        "a buffer one byte short, a packet of 0 bytes, one of 1501",
+    )?;
+    Ok(q)
 }
 
 // There is no room for so many packets as there are bytes.
-fn stalled(q: Queue, buf: &mut [u8], tx: &mut [u8]) -> Queue {
+fn stalled(rt: &impl Print, q: Queue, buf: &mut [u8], tx: &mut [u8]) -> io::Result<Queue> {
     let q = q.offer_some(SIZE, buf);
-    q.show(b"packets until one is refused");
+    q.show(rt, "packets until one is refused")?;
     let q = q.send_some(5, not_open(), buf, ALWAYS_ENOUGH, tx);
-    q.show(b"5 sends");
-    q
+    q.show(rt, "5 sends")?;
+    Ok(q)
 }
 
-fn drained(q: Queue, l: PPPoS, buf: &[u8], tx: &mut [u8]) -> Queue {
+fn drained(rt: &impl Print, q: Queue, l: PPPoS, buf: &[u8], tx: &mut [u8]) -> io::Result<Queue> {
     let q = q.send_some(q.held(), l, buf, ALWAYS_ENOUGH, tx);
-    q.show(b"a send for each packet held");
-    q
+    q.show(rt, "a send for each packet held")?;
+    Ok(q)
 }
 
 // The packet in front is longer than 100 bytes, and stays there.
-fn resumed(q: Queue, l: PPPoS, buf: &[u8], tx: &mut [u8]) -> Queue {
+fn resumed(rt: &impl Print, q: Queue, l: PPPoS, buf: &[u8], tx: &mut [u8]) -> io::Result<Queue> {
     let q = q.send_some(5, l, buf, 100, tx);
-    q.show(b"5 sends into 100 bytes");
-    drained(q, l, buf, tx)
+    q.show(rt, "5 sends into 100 bytes")?;
+    drained(rt, q, l, buf, tx)
 }
 
-fn wrapped(q: Queue, l: PPPoS, buf: &mut [u8], tx: &mut [u8]) -> Queue {
+fn wrapped(
+    rt: &impl Print,
+    q: Queue,
+    l: PPPoS,
+    buf: &mut [u8],
+    tx: &mut [u8],
+) -> io::Result<Queue> {
     let q = rounds::run(q, l, buf, tx);
-    q.show(b"3200 rounds of offers and sends, the link not open in a quarter of them");
-    drained(q, l, buf, tx)
+    q.show(
+        rt,
+        "3200 rounds of offers and sends, the link not open in a quarter of them",
+    )?;
+    drained(rt, q, l, buf, tx)
 }
 
-fn go_on(q: Queue, l: PPPoS, buf: &mut [u8], tx: &mut [u8]) {
-    uplink::show(l);
-    let q = resumed(q, l, buf, tx);
-    wrapped(q, l, buf, tx);
+fn go_on(rt: &impl Print, q: Queue, l: PPPoS, buf: &mut [u8], tx: &mut [u8]) -> io::Result<()> {
+    uplink::show(rt, l)?;
+    let q = resumed(rt, q, l, buf, tx)?;
+    wrapped(rt, q, l, buf, tx)?;
+    Ok(())
 }
 
-fn main() {
+fn main(rt: HostRuntime) -> io::Result<()> {
     let mut buf = [0u8; SIZE];
     let mut tx = [0u8; ALWAYS_ENOUGH];
-    header();
-    uplink::show(not_open());
-    let q = declined(Queue::new(&buf), &mut buf);
-    let q = stalled(q, &mut buf, &mut tx);
-    go_on(q, opened(), &mut buf, &mut tx);
+    header(&rt)?;
+    uplink::show(&rt, not_open())?;
+    let q = declined(&rt, Queue::new(&buf), &mut buf)?;
+    let q = stalled(&rt, q, &mut buf, &mut tx)?;
+    go_on(&rt, q, opened(&mut rt.stdin())?, &mut buf, &mut tx)
 }

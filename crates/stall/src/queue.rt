@@ -5,6 +5,7 @@ use crate::packet::{LONGEST, lent, packet};
 use link::pppos::PPPoS;
 use outbox::outbox::{Outbox, Sent};
 use outbox::refusal::{Outcome, number};
+use std::io;
 
 #[derive(Clone, Copy)]
 pub(crate) struct Queue {
@@ -33,9 +34,9 @@ impl Queue {
         o.held()
     }
 
-    pub(crate) fn show(self, step: &[u8]) {
+    pub(crate) fn show(self, rt: &impl Print, step: &str) -> io::Result<()> {
         let c = self.counts;
-        c.show(self.held(), step);
+        c.show(rt, self.held(), step)
     }
 
     pub(crate) fn accept(self, pkt: &[u8], buf: &mut [u8]) -> Self {

@@ -1,11 +1,12 @@
 // The link: not open, or opened by what the other end sent.
 use feeding::feed::{feed, start};
 use framing::frame_reader::Reading;
-use libc::{STDIN_FILENO, STDOUT_FILENO};
 use link::choices::Choices;
 use link::frames::ALWAYS_ENOUGH;
 use link::pppos::PPPoS;
 use phases::ppp::Ipv4Status;
+use std::io::{self, Read};
+use streams::read_full;
 
 pub(crate) fn not_open() -> PPPoS {
     let c = PPPoS::new(b"", b"", Choices::plain(Reading::Crate));
@@ -21,22 +22,18 @@ fn fed(src: &[u8]) -> PPPoS {
     f.link
 }
 
-// What the other end sent is standard input: 4,096 bytes of it are enough.
-pub(crate) fn opened() -> PPPoS {
-    let mut bytes = io::buffer();
-    let n = io::read_full(STDIN_FILENO, &mut bytes);
-    fed(&bytes[..n])
+// What the other end sent is the input: 4,096 bytes of it are enough.
+pub(crate) fn opened<R: Read>(input: &mut R) -> io::Result<PPPoS> {
+    let mut bytes = [0u8; 4096];
+    let n = read_full(input, &mut bytes)?;
+    Ok(fed(&bytes[..n]))
 }
 
-pub(crate) fn show(l: PPPoS) {
+pub(crate) fn show(rt: &impl Print, l: PPPoS) -> io::Result<()> {
     let s = l.status();
     let i = s.ipv4;
     match i {
-        Ipv4Status::Down => {
-            io::write_all(STDOUT_FILENO, b"ipv4=down\n");
-        }
-        Ipv4Status::Up(_) => {
-            io::write_all(STDOUT_FILENO, b"ipv4=up\n");
-        }
+        Ipv4Status::Down => rt.println("ipv4=down"),
+        Ipv4Status::Up(_) => rt.println("ipv4=up"),
     }
 }

@@ -1,7 +1,7 @@
 use Rattle.feeding.proofs.Feeding.{starts, within, again, still-few, finished, idle_most}
 use native.Mathlib.Omega.{arith}
 use mathlib.Core.Path.{refl}
-use Prim.Native.Nat.{◌-◌, ◌<◌}
+use Prim.Native.Nat.{◌<◌}
 use Rattle.feeding.proofs.feed.feed.Goals as goal
 
 pub loop-at-init : goal.loop-at-init

@@ -2,7 +2,6 @@ use mathlib.Core.List.{◌++◌}
 use borrow.Author.Tests.{not-true, not-false}
 use Rattle.framing.proofs.Run.{run_within}
 use Rattle.framing.proofs.Walking.{walked_stop, walked_then}
-use borrow.Author.Rules.{rules}
 use Rattle.framing.proofs.encode.body_at.Goals as goal
 
 pub returns-then-not-w : goal.returns-then-not-w

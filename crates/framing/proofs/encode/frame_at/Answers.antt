@@ -3,7 +3,6 @@ use borrow.Author.Tests.{not-true, not-false}
 use Rattle.framing.specs.Rfc1662.{fcs}
 use Rattle.framing.specs.Writer.{units, finish_units}
 use Rattle.framing.proofs.Run.{run_stop, run_then, run_within}
-use borrow.Author.Rules.{rules}
 use Rattle.framing.proofs.encode.frame_at.Goals as goal
 
 pub returns-then-not-s : goal.returns-then-not-s

@@ -1,12 +1,12 @@
 use borrow.Author.Rules.{rules}
-use mathlib.Core.Path.{◌≡◌, sym, subst, ◌∙◌}
+use mathlib.Core.Path.{◌≡◌, sym, ◌∙◌}
 use mathlib.Core.List.{[]}
-use Prim.Native.Nat.{ℕ, ◌+◌, ◌-◌, ◌^◌, ◌<◌}
+use Prim.Native.Nat.{◌+◌}
 use native.Mathlib.Omega.{arith}
-use lib.ListN.{length, get_or, drop, drop_of_length-le}
+use lib.ListN.{drop, drop_of_length-le}
 use Rattle.framing.specs.Writer.{units}
 use Rattle.framing.proofs.Run.{onward_turn, onward_stop, onward_none, run_within, units-drop}
-use Rattle.framing.proofs.Fcs.{fcs_turn, fcs_end, fcs_byte_lt}
+use Rattle.framing.proofs.Fcs.{fcs_turn, fcs_end}
 use Rattle.framing.proofs.frame_writer.walk.Goals as goal
 
 pub loop-p-preserved : goal.loop-p-preserved

@@ -1,6 +1,5 @@
 use mathlib.Core.Path.{◌≡◌, sym, subst⁻¹, ◌∙◌}
 use mathlib.Core.Bool.{true, false}
-use Prim.Native.Nat.{◌-◌}
 use native.Mathlib.Omega.{arith}
 use lib.ListN.{length, drop, get_or}
 use Rattle.framing.specs.Reader.{held, full}
