@@ -15,9 +15,8 @@ loop-i-preserved c = (
 pub overflow_cast-result : goal.overflow_cast-result
 overflow_cast-result c =
     let all : c.loop-i.s ≡ fcs c.args.seed c.args.src.now = sym (fcs_end _ c.loop-i.i c.args.src.now (omega arith)) ∙ c.loop-i.invariant.1 in
-    record { fits = subst (λ (x : ℕ). x < 2 ^ 16) (sym (all)) (fcs_lt c.args.seed c.args.src.now c.ranges.seed.fits) }
+    record { fits = subst (λ (x : ℕ). x < 2 ^ 16) (sym all) (fcs_lt c.args.seed c.args.src.now c.ranges.seed.fits) }
 
 pub returns : goal.returns
 returns c =
-    let all : c.loop-i.s ≡ fcs c.args.seed c.args.src.now = sym (fcs_end _ c.loop-i.i c.args.src.now (omega arith)) ∙ c.loop-i.invariant.1 in
-    all
+    sym (fcs_end _ c.loop-i.i c.args.src.now (omega arith)) ∙ c.loop-i.invariant.1

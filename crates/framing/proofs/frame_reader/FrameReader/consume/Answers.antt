@@ -22,7 +22,8 @@ returns-then-is_complete-clause-consumes c =
     let a = c.args in
     let s = held c.loop-i.r c.loop-i.buf in
     let first = held a.self a.buf.now in
-    let done : full s ≡ true = sym c.is_complete.ensures ∙ c.if-is_complete.true in consumes_at first s c.loop-i.i a.src.now c.if-buf-len.false c.loop-i.invariant.0
+    let done : full s ≡ true = sym c.is_complete.ensures ∙ c.if-is_complete.true in
+    consumes_at first s c.loop-i.i a.src.now c.if-buf-len.false c.loop-i.invariant.0
     (c.loop-i.invariant.2 ∙ fed_stop s (drop c.loop-i.i a.src.now) done)
 
 pub returns-then-is_complete-clause-drops_value : goal.returns-then-is_complete-clause-drops_value
@@ -30,7 +31,8 @@ returns-then-is_complete-clause-drops_value c =
     let a = c.args in
     let s = held c.loop-i.r c.loop-i.buf in
     let first = held a.self a.buf.now in
-    let done : full s ≡ true = sym c.is_complete.ensures ∙ c.if-is_complete.true in counted_stop a.src.now c.loop-i.invariant.3 done ∙ sym (dropped-drops first a.src.now c.if-buf-len.false)
+    let done : full s ≡ true = sym c.is_complete.ensures ∙ c.if-is_complete.true in
+    counted_stop a.src.now c.loop-i.invariant.3 done ∙ sym (dropped-drops first a.src.now c.if-buf-len.false)
 
 pub loop-i-preserved : goal.loop-i-preserved
 loop-i-preserved c =
@@ -49,11 +51,13 @@ pub returns-clause-consumes : goal.returns-clause-consumes
 returns-clause-consumes c =
     let a = c.args in
     let s = held c.loop-i.r c.loop-i.buf in
-    let first = held a.self a.buf.now in consumes_at first s c.loop-i.i a.src.now c.if-buf-len.false c.loop-i.invariant.0
+    let first = held a.self a.buf.now in
+    consumes_at first s c.loop-i.i a.src.now c.if-buf-len.false c.loop-i.invariant.0
     (c.loop-i.invariant.2 ∙ fed_end s c.loop-i.i a.src.now (omega arith))
 
 pub returns-clause-drops_value : goal.returns-clause-drops_value
 returns-clause-drops_value c =
     let a = c.args in
     let s = held c.loop-i.r c.loop-i.buf in
-    let first = held a.self a.buf.now in counted_end a.src.now c.loop-i.invariant.3 (omega arith) ∙ sym (dropped-drops first a.src.now c.if-buf-len.false)
+    let first = held a.self a.buf.now in
+    counted_end a.src.now c.loop-i.invariant.3 (omega arith) ∙ sym (dropped-drops first a.src.now c.if-buf-len.false)

@@ -12,11 +12,11 @@ returns-then-is_opened c =
     req_resent a.self a.id a.r c.in_default.is c.after_reply-f.ensures
     (one_reply _ c.none.ensures.0 c.reply_packet.ensures c.add-replies.ensures)
     (sym c.is_opened.ensures ∙ c.if-is_opened.true)
-    c.send_configure_request.ensures  -- notes ['is_opened_lem']
+    c.send_configure_request.ensures
 
 pub returns : goal.returns
 returns c =
     let a = c.args in
     req_kept a.self a.id a.r c.in_default.is c.after_reply-f.ensures
     (one_reply _ c.none.ensures.0 c.reply_packet.ensures c.add-replies.ensures)
-    (sym c.is_opened.ensures ∙ c.if-is_opened.false)  -- notes ['is_opened_lem']
+    (sym c.is_opened.ensures ∙ c.if-is_opened.false)

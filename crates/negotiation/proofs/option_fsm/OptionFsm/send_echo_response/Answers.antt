@@ -5,7 +5,7 @@ use Rattle.negotiation.proofs.option_fsm.OptionFsm.send_echo_response.Goals as g
 
 pub returns-then-not-is_opened : goal.returns-then-not-is_opened
 returns-then-not-is_opened c = let a = c.args in
-    c.ignore.ensures ∙ ap handled (echo_not a.self a.p.now (sym c.is_opened.ensures ∙ c.if-not-is_opened.true))  -- notes ['is_opened_lem']
+    c.ignore.ensures ∙ ap handled (echo_not a.self a.p.now (sym c.is_opened.ensures ∙ c.if-not-is_opened.true))
 
 pub returns-then-p-lt3 : goal.returns-then-p-lt3
 returns-then-p-lt3 c =

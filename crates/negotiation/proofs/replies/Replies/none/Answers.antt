@@ -2,7 +2,6 @@ use Rattle.std.proofs.Common.{refl}
 use Rattle.negotiation.specs.Replies.{replies_of}
 use Rattle.negotiation.proofs.replies.Replies.none.Goals as goal
 
--- src/lib.rt:19:1
 pub returns : goal.returns
 unfolding replies_of
 returns c = (rw c.blank-p.ensures.0 refl, refl)
