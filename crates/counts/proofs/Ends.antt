@@ -9,6 +9,7 @@ use lib.Dec.{ltb, eqb}
 use lib.ListN.{length, get_or, take, length-append}
 use Rattle.laws.proofs.Cases.{by_test, cond_all}
 use Rattle.framing.specs.Rfc1662.{fcs}
+use Rattle.std.specs.Prelude.{Option}
 use Rattle.framing.specs.Reader.{is_complete, is_good, next, aborts, escape_after, len_after, fault_in, fault_of, marks, Held, held, step_by, step, full}
 use Rattle.framing.specs.Heard.{packets_in, fetched_in, heard}
 use Rattle.framing.specs.Drops.{one_drop, fault_by, fault_at, ends_of, missed}
@@ -19,7 +20,7 @@ use Rattle.framing.proofs.Heard.{fetched_open}
 use Rattle.counts.specs.Counts.{is_data, ends}
 
 -- a frame end with the fault f
-abbrev end_with : Held → Fault → Held
+abbrev end_with : Held → Option Fault → Held
 end_with s f =
     held
     (cond (is_good f) (next s.reader Complete (escape_after s.reader) s.reader.len) (next s.reader Address (escape_after s.reader) (len_after s.reader)))
@@ -30,7 +31,7 @@ end_one : (s : Held) → 1 ≡ length (packets_in (end_with s (fault_of s.reader
 unfolding fault_in
 end_one s =
     let l = take s.reader.len s.buf in
-    let P : Fault → Type 0 = λ f. 1 ≡ length (packets_in (end_with s f)) + ends_of (one_drop f) in
+    let P : Option Fault → Type 0 = λ f. 1 ≡ length (packets_in (end_with s f)) + ends_of (one_drop f) in
     cond_all P (aborts s.reader) refl
     (cond_all P (ltb (length l) 3) refl
     (by_test (eqb (get_or l 0 0) 0x03)

@@ -16,6 +16,7 @@ use Rattle.laws.specs.Quiet.{Quiet}
 use Rattle.laws.proofs.Cases.{apart, by_test, by_le, cond_all, neither}
 use Rattle.laws.proofs.Stores.{take_sets}
 use Rattle.framing.specs.Rfc1662.{fcs_bits, fcs, unescaped, aborted, stuffed, frame}
+use Rattle.std.specs.Prelude.{Option, None, Some}
 use Rattle.framing.specs.Reader.{is_crate, is_complete, marks, fault_in, is_good, Held, step, full}
 use Rattle.framing.specs.Heard.{fetched_in, Heard, heard}
 use Rattle.framing.specs.Drops.{no_drops, one_drop, fault_at, together, missed}
@@ -23,7 +24,7 @@ use Rattle.framing.specs.Arrives.{Idle}
 use Rattle.framing.specs.Paper.{doubled}
 use Rattle.framing.specs.declared.drops.Drops.{Drops}
 use Rattle.framing.specs.declared.drops.Fault.{Fault}
-use Rattle.framing.specs.declared.drops.Fault.TheVariants.{None, Aborted, Short, Control, Check, Overrun}
+use Rattle.framing.specs.declared.drops.Fault.TheVariants.{Aborted, Short, Control, Check, Overrun}
 use Rattle.framing.specs.declared.frame_reader.State.TheVariants.{Start, Data}
 use Rattle.framing.specs.declared.frame_reader.Reading.{Reading}
 use Rattle.framing.proofs.Heard.{fetched_none, heard_quiet}
@@ -62,7 +63,7 @@ waits s [] e f = (refl, e)
 waits s (b ∷ w) e f =
     let there = start_stays s b e f.0 in
     let g = waits (step s b) w there f.1 in (
-      missed_on s b w (ap is_complete there) ∙ ap₂ (λ (x : Fault) (d : Drops). together (one_drop x) d) (start_counts s b e) g.0,
+      missed_on s b w (ap is_complete there) ∙ ap₂ (λ (x : Option Fault) (d : Drops). together (one_drop x) d) (start_counts s b e) g.0,
       ap (λ (t : Held). t.reader.state) (heard_on s b w (ap is_complete there)) ∙ g.1,
     )
 
@@ -71,7 +72,7 @@ abbrev Taken : Held → ℕ → Type 0
 Taken s b = (fault_at s b ≡ None) × ((step s b).reader.state ≡ Data)
 
 abbrev Lost : Held → ℕ → Type 0
-Lost s b = (fault_at s b ≡ Overrun) × ((step s b).reader.state ≡ Start)
+Lost s b = (fault_at s b ≡ Some Overrun) × ((step s b).reader.state ≡ Start)
 
 in_byte : (s : Held) (b : ℕ) → s.reader.state ≡ Data → (b ≡ 0x7E → ⊥) → Taken s b ⊎ Lost s b
 unfolding step fault_at
@@ -86,7 +87,7 @@ abbrev AllTaken : Held → List ℕ → Type 0
 AllTaken s w = (missed s w ≡ no_drops) × ((heard s w).now.reader.state ≡ Data)
 
 abbrev AllLost : Held → List ℕ → Type 0
-AllLost s w = (missed s w ≡ one_drop Overrun) × ((heard s w).now.reader.state ≡ Start)
+AllLost s w = (missed s w ≡ one_drop (Some Overrun)) × ((heard s w).now.reader.state ≡ Start)
 
 in_bytes : (s : Held) (w : List ℕ) → s.reader.state ≡ Data → Without 0x7E w → AllTaken s w ⊎ AllLost s w
 unfolding missed heard
@@ -95,7 +96,7 @@ in_bytes s (b ∷ w) e f =
     ⊎_elim
     (λ (t : Taken s b).
     let quiet = ap is_complete t.1 in
-    let first = missed_on s b w quiet ∙ ap (λ (x : Fault). together (one_drop x) (missed (step s b) w)) t.0 ∙ none_together (missed (step s b) w) in
+    let first = missed_on s b w quiet ∙ ap (λ (x : Option Fault). together (one_drop x) (missed (step s b) w)) t.0 ∙ none_together (missed (step s b) w) in
     let last = ap (λ (t : Held). t.reader.state) (heard_on s b w quiet) in
     ⊎_elim
     (λ (g : AllTaken (step s b) w). inl (first ∙ g.0, last ∙ g.1))
@@ -104,7 +105,7 @@ in_bytes s (b ∷ w) e f =
     (λ (t : Lost s b).
     let quiet = ap is_complete t.1 in
     let g = waits (step s b) w t.1 f.1 in
-    inr (missed_on s b w quiet ∙ ap₂ (λ (x : Fault) (d : Drops). together (one_drop x) d) t.0 g.0, ap (λ (t : Held). t.reader.state) (heard_on s b w quiet) ∙ g.1))
+    inr (missed_on s b w quiet ∙ ap₂ (λ (x : Option Fault) (d : Drops). together (one_drop x) d) t.0 g.0, ap (λ (t : Held). t.reader.state) (heard_on s b w quiet) ∙ g.1))
     (in_byte s b e f.0)
 
 -- ---- an address, bytes that are no flags, and the closing flag
@@ -117,7 +118,7 @@ fault_judged : (l : List ℕ) → fault_in l ≡ judged l
 unfolding fault_in fcs fcs_bits
 fault_judged l =
     ap
-    (λ (t : Bool). cond t Short (cond (not (eqb (get_or l 0 0) 0x03)) Control (cond (not (eqb (fcs 0x00FF l) 0xF0B8)) Check None)))
+    (λ (t : Bool). cond t (Some Short) (cond (not (eqb (get_or l 0 0) 0x03)) (Some Control) (cond (not (eqb (fcs 0x00FF l) 0xF0B8)) (Some Check) None)))
     (four_octets (length l))
 
 aborts_usual : (k : Reading) (a d : Bool) → is_crate k && (a || d) ≡ false → a && not (is_crate k) ≡ a
@@ -125,7 +126,7 @@ aborts_usual k true d e = rw (neither (is_crate k) true d e).0
 aborts_usual k false d e = refl
 
 closing : (k : Reading) (a : Bool) (l buf : List ℕ) → a && not (is_crate k) ≡ a → length l ≤ length buf
-    → missed (inside k a (length l) (sets buf 0 l)) (0x7E ∷ []) ≡ one_drop (cond a Aborted (judged l))
+    → missed (inside k a (length l) (sets buf 0 l)) (0x7E ∷ []) ≡ one_drop (cond a (Some Aborted) (judged l))
 unfolding missed fault_at
 closing k a l buf e h =
     together_none (one_drop (fault_at (inside k a (length l) (sets buf 0 l)) 0x7E))
@@ -150,7 +151,7 @@ module _ (k : Reading) (buf w : List ℕ) (no_flag : Without 0x7E w) (usual : Us
   unfolding heard
   heard_at {t} q = ap (λ (r : Heard). r.now) (ap (heard s) (sym (append-nil w)) ∙ heard_quiet q [])
 
-  fits : length l ≤ length buf → missed (flag_met k buf) ((0xFF ∷ w) ++ (0x7E ∷ [])) ≡ one_drop (cond (aborted false w) Aborted (judged l))
+  fits : length l ≤ length buf → missed (flag_met k buf) ((0xFF ∷ w) ++ (0x7E ∷ [])) ≡ one_drop (cond (aborted false w) (Some Aborted) (judged l))
   fits h =
       let at = heard_at (simp zero-add at (keeps k false w 0 buf no_flag no_double (simp zero-add h))) in
       ⊎_elim
@@ -161,7 +162,7 @@ module _ (k : Reading) (buf w : List ℕ) (no_flag : Without 0x7E w) (usual : Us
       (λ (g : AllLost s w). let e : Data ≡ Start = sym (ap (λ (t : Held). t.reader.state) at) ∙ g.1 in apart cc)
       (in_bytes s w refl no_flag)
 
-  runs_out : length buf < length l → missed (flag_met k buf) ((0xFF ∷ w) ++ (0x7E ∷ [])) ≡ one_drop Overrun
+  runs_out : length buf < length l → missed (flag_met k buf) ((0xFF ∷ w) ++ (0x7E ∷ [])) ≡ one_drop (Some Overrun)
   unfolding missed
   runs_out h =
       let r = loses k false w 0 buf no_flag no_double (omega arith) (simp zero-add h) in
@@ -169,7 +170,7 @@ module _ (k : Reading) (buf w : List ℕ) (no_flag : Without 0x7E w) (usual : Us
       ⊎_elim
       (λ (g : AllTaken s w). let e : Start ≡ Data = sym at ∙ g.1 in apart cc)
       (λ (g : AllLost s w).
-      entered ∙ ap₂ (λ (d : Drops) (x : Fault). together d (together (one_drop x) no_drops)) g.0 (start_counts (heard s w).now 0x7E g.1))
+      entered ∙ ap₂ (λ (d : Drops) (x : Option Fault). together d (together (one_drop x) no_drops)) g.0 (start_counts (heard s w).now 0x7E g.1))
       (in_bytes s w refl no_flag)
 
   pub flags : missed (flag_met k buf) ((0xFF ∷ w) ++ (0x7E ∷ [])) ≡ one_drop (between (length buf) w)
@@ -180,13 +181,9 @@ module _ (k : Reading) (buf w : List ℕ) (no_flag : Without 0x7E w) (usual : Us
 
 -- ---- encoded frames
 
-good_none : (f : Fault) → is_good f ≡ true → f ≡ None
+good_none : (f : Option Fault) → is_good f ≡ true → f ≡ None
 good_none None e = refl
-good_none Aborted e = absurd (false≢true e)
-good_none Short e = absurd (false≢true e)
-good_none Control e = absurd (false≢true e)
-good_none Check e = absurd (false≢true e)
-good_none Overrun e = absurd (false≢true e)
+good_none (Some f) e = absurd (false≢true e)
 
 -- between frames a flag counts nothing
 flag_counts : (s : Held) (i : Idle s) → fault_at s 0x7E ≡ None

@@ -9,6 +9,7 @@ use borrow.Author.Tests.{ltb-true, ltb-false, eqb-true, eqb-false}
 use lib.Dec.{ltb, eqb}
 use lib.ListN.{length, get_or}
 use Rattle.laws.proofs.Cases.{apart, by_test}
+use Rattle.std.specs.Prelude.{Some}
 use Rattle.framing.specs.Rfc1662.{fcs}
 use Rattle.framing.specs.Reader.{is_crate, is_complete, aborts, marks, fault_in, fault_of, Held, step, full}
 use Rattle.framing.specs.Drops.{no_drops, one_drop, fault_by, fault_at, dropped}
@@ -45,14 +46,14 @@ nothing : (s : Held) (b : ℕ) → (FrameEnd s b → ⊥) → (Kept s b × (Room
 nothing s b e k = no_end s b 0 e (no_one k)
 
 -- room runs out
-out : (s : Held) (b : ℕ) → Kept s b → (Room s → ⊥) → Told s b (one_drop Overrun)
+out : (s : Held) (b : ℕ) → Kept s b → (Room s → ⊥) → Told s b (one_drop (Some Overrun))
 out s b k r = no_end s b 1 (λ p. k.1 p.1) (yes (k, r))
 
 module _ (s : Held) (b : ℕ) (e : FrameEnd s b) where
   kept_not : {P : Type 0} → Kept s b × P → ⊥
   kept_not p = p.0.1 e.1
 
-  aborted-told : EscapeOpen s → Told s b (one_drop Aborted)
+  aborted-told : EscapeOpen s → Told s b (one_drop (Some Aborted))
   aborted-told a =
       record {
         aborted = yes (e, a);
@@ -63,7 +64,7 @@ module _ (s : Held) (b : ℕ) (e : FrameEnd s b) where
       }
 
   module _ (a : EscapeOpen s → ⊥) where
-    short_told : Few s → Told s b (one_drop Short)
+    short_told : Few s → Told s b (one_drop (Some Short))
     short_told f =
         record {
           aborted = no_one (λ p. a p.1);
@@ -74,7 +75,7 @@ module _ (s : Held) (b : ℕ) (e : FrameEnd s b) where
         }
 
     module _ (f : Few s → ⊥) where
-      control_told : (Begins s → ⊥) → Told s b (one_drop Control)
+      control_told : (Begins s → ⊥) → Told s b (one_drop (Some Control))
       control_told c =
           record {
             aborted = no_one (λ p. a p.1);
@@ -85,7 +86,7 @@ module _ (s : Held) (b : ℕ) (e : FrameEnd s b) where
           }
 
       module _ (c : Begins s) where
-        check_told : (Checks s → ⊥) → Told s b (one_drop Check)
+        check_told : (Checks s → ⊥) → Told s b (one_drop (Some Check))
         check_told k =
             record {
               aborted = no_one (λ p. a p.1);

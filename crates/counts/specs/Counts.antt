@@ -1,5 +1,5 @@
 -- What the reader's five counts say (document 02, 5/12), for one byte, for the bytes between two flags and for a whole line.
-use Rattle.std.specs.Prelude.{◌≡◌, Bool, true, false, cond, not, ◌&&◌, ◌||◌, ℕ, ◌+◌, ◌≤◌, ◌<◌, ltb, eqb, length, get_or, take}
+use Rattle.std.specs.Prelude.{◌≡◌, Bool, true, false, cond, not, ◌&&◌, ◌||◌, ℕ, ◌+◌, ◌≤◌, ◌<◌, ltb, eqb, length, get_or, take, Option, None, Some}
 use mathlib.Core.List.{List, [], ◌∷◌, ◌++◌, map, flatten}
 use Rattle.laws.specs.Each.{Each, Without}
 use Rattle.framing.specs.Rfc1662.{fcs, unescaped, aborted, frame}
@@ -9,7 +9,7 @@ use Rattle.framing.specs.Drops.{no_drops, one_drop, ends_of, dropped, missed}
 use Rattle.framing.specs.Paper.{doubled}
 use Rattle.framing.specs.declared.drops.Drops.{Drops}
 use Rattle.framing.specs.declared.drops.Fault.{Fault}
-use Rattle.framing.specs.declared.drops.Fault.TheVariants.{None, Aborted, Short, Control, Check, Overrun}
+use Rattle.framing.specs.declared.drops.Fault.TheVariants.{Aborted, Short, Control, Check, Overrun}
 use Rattle.framing.specs.declared.frame_reader.State.{State}
 use Rattle.framing.specs.declared.frame_reader.State.TheVariants.{Start, Address, Data, Complete}
 use Rattle.framing.specs.declared.frame_reader.Reading.{Reading}
@@ -77,15 +77,15 @@ abbrev pub flag_met : Reading → List ℕ → Held
 flag_met k buf = held (next (fresh_reader k) Address false 0) buf
 
 -- RFC 1662, 4.3: a frame under four octets, or one that ends with an escape, is not counted as a check error; the check is over the whole frame
-abbrev pub judged : List ℕ → Fault
+abbrev pub judged : List ℕ → Option Fault
 judged kept =
-    cond (ltb (length (0xFF ∷ kept)) 4) Short
-    (cond (not (eqb (get_or kept 0 0) 0x03)) Control
-    (cond (not (eqb (fcs 0xFFFF (0xFF ∷ kept)) 0xF0B8)) Check None))
+    cond (ltb (length (0xFF ∷ kept)) 4) (Some Short)
+    (cond (not (eqb (get_or kept 0 0) 0x03)) (Some Control)
+    (cond (not (eqb (fcs 0xFFFF (0xFF ∷ kept)) 0xF0B8)) (Some Check) None))
 
 -- an address FF, then the bytes w, to a reader with so much room for what is read off them
-abbrev pub between : ℕ → List ℕ → Fault
-between room w = cond (ltb room (length (unescaped false w))) Overrun (cond (aborted false w) Aborted (judged (unescaped false w)))
+abbrev pub between : ℕ → List ℕ → Option Fault
+between room w = cond (ltb room (length (unescaped false w))) (Some Overrun) (cond (aborted false w) (Some Aborted) (judged (unescaped false w)))
 
 -- in crate reading, what the standard one reads otherwise is left out
 abbrev pub Usual : Reading → List ℕ → Type 0

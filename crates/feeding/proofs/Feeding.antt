@@ -8,21 +8,23 @@ use native.Mathlib.Omega.{arith}
 use borrow.Author.Tests.{eqb-true, eqb-false, ne_eqb, le-leb, lt-leb}
 use lib.Dec.{eqb}
 use lib.ListN.{length, take, drop, length-drop}
-use lib.Seq.{drop-drop}
-use Rattle.laws.proofs.Cases.{by_test, cond_all}
+use Rattle.std.specs.Prelude.{Result}
+use Rattle.std.specs.Result.{result_unwrap_or}
+use Rattle.laws.proofs.Cases.{by_test}
 use Rattle.framing.specs.Drops.{no_drops, together, all_of, dropped}
 use Rattle.framing.specs.declared.drops.Drops.{Drops}
 use Rattle.framing.proofs.Reader.{consumed_left}
 use Rattle.framing.proofs.Dropping.{all_together, dropped_most}
 use Rattle.options.proofs.Walks.{rest}
 use Rattle.link.specs.Link.{Makes, Opens, held_by, Consumes, poll_link, Polls}
+use Rattle.link.proofs.Sending.{unwrap_count}
 use Rattle.feeding.specs.Feed.{started, idle_after, turns, fed_link, Feeds, Progress, progress_of, one_turn}
-use Rattle.link.specs.declared.refusal.Outcome.{Outcome}
+use Rattle.link.specs.declared.refusal.Refusal.{Refusal}
 use Rattle.link.specs.declared.choices.Choices.{Choices}
 use Rattle.link.specs.declared.pppos.PPPoS.{PPPoS}
 use Rattle.link.specs.declared.pppos.PPPoSAction.{PPPoSAction}
 
-pub start_polls : {c : Choices} {l l' l'' : PPPoS} {o o' : Outcome} {a : PPPoSAction} {tx' rx' : List ℕ} (tx rx : List ℕ)
+pub start_polls : {c : Choices} {l l' l'' : PPPoS} {o o' : Result Unit Refusal} {a : Result PPPoSAction Refusal} {tx' rx' : List ℕ} (tx rx : List ℕ)
     → Makes [] [] c o l → Opens l o' l' → Polls (poll_link l' tx rx) a l'' tx' rx'
     → Polls (started c tx rx) a l'' tx' rx'
 unfolding started
@@ -30,13 +32,13 @@ start_polls tx rx n o p = rw (o.link, n.link) at p
 
 -- ---- a turn
 
-pub turn_feeds : {l l' l'' : PPPoS} {tx' rx rx' rx'' bs : List ℕ} {o : Outcome} {n : ℕ} {a : PPPoSAction} {c d' : Drops} (tx : List ℕ) (d : Drops)
-    → Consumes l rx bs o n l' rx' → c ≡ dropped (held_by l rx) bs → d' ≡ together d c → Polls (poll_link l' tx rx') a l'' tx' rx''
+pub turn_feeds : {l l' l'' : PPPoS} {tx' rx rx' rx'' bs : List ℕ} {t : Result ℕ Refusal} {n : ℕ} {a : Result PPPoSAction Refusal} {c d' : Drops} (tx : List ℕ) (d : Drops)
+    → Consumes l rx bs t l' rx' → n ≡ result_unwrap_or t 0 → c ≡ dropped (held_by l rx) bs → d' ≡ together d c → Polls (poll_link l' tx rx') a l'' tx' rx''
     → Feeds (one_turn (progress_of l tx rx bs d)) bs n l'' d' tx' rx''
 unfolding one_turn
-turn_feeds tx d e f g p =
+turn_feeds {t = t} tx d e k f g p =
     record {
-      count = e.count;
+      count = k ∙ unwrap_count t ∙ e.count;
       link = rw (e.link, e.bytes) at p.link;
       drops = g ∙ ap (together d) f;
       transmit = rw (e.link, e.bytes) at p.transmit;
@@ -44,7 +46,7 @@ turn_feeds tx d e f g p =
     }
 
 -- a call drops no more frames than it takes bytes, and no more than it is handed
-pub drops-fit : {l l' : PPPoS} {rx rx' bs : List ℕ} {o : Outcome} {n m : ℕ} {c : Drops} (d : Drops) → Consumes l rx bs o n l' rx' → c ≡ dropped (held_by l rx) bs
+pub drops-fit : {l l' : PPPoS} {rx rx' bs : List ℕ} {t : Result ℕ Refusal} {m : ℕ} {c : Drops} (d : Drops) → Consumes l rx bs t l' rx' → c ≡ dropped (held_by l rx) bs
     → all_of d + length bs < m → all_of d + all_of c < m
 drops-fit {l} {rx = rx} {bs = bs} d e f h = rw f (omega (arith, dropped_most (held_by l rx) bs))
 
@@ -107,42 +109,27 @@ ahead_end idle s {end} h a = go a.fuel a.same
         (λ z. rw z at e)
         (λ z. rw (z, le-leb 2 idle (h (omega (arith, eqb-false (length s.left) 0 z)))) at e)
 
--- ---- the loop: at bytes of src are taken
+-- ---- the loop: the bytes left are not taken yet
 
-module _ (src : List ℕ) (at : ℕ) where
-  pub within : {n : ℕ} {s : Progress} {l : PPPoS} {d : Drops} {tx rx : List ℕ} → at ≤ length src → Feeds s (take (length src - at) (drop at src)) n l d tx rx → at + n ≤ length src
-  within h f = omega (arith, f.count, ap length (rest src at), length-drop at src)
+pub again : {idle n : ℕ} {l l' : PPPoS} {d d' : Drops} {tx tx' rx rx' : List ℕ} {end : Progress} (left : List ℕ) → 0 < length left → idle < 2
+    → Ahead idle (progress_of l tx rx left d) end → Feeds (one_turn (progress_of l tx rx left d)) left n l' d' tx' rx'
+    → Ahead (idle_after idle n) (progress_of l' tx' rx' (take (length left - n) (drop n left)) d') end
+again {idle} {n} {l = l} {d = d} {tx = tx} {rx = rx} left h i a f =
+    let s = progress_of l tx rx left d in
+    rw (rest left n, f.link, f.drops, f.transmit, f.receive, f.count, ← left_is s) (ahead_next idle s h i a)
 
-  pub again : {idle n : ℕ} {l l' : PPPoS} {d d' : Drops} {tx tx' rx rx' : List ℕ} {end : Progress} → at < length src → idle < 2
-      → Ahead idle (progress_of l tx rx (drop at src) d) end
-      → Feeds (one_turn (progress_of l tx rx (take (length src - at) (drop at src)) d)) (take (length src - at) (drop at src)) n l' d' tx' rx'
-      → Ahead (idle_after idle n) (progress_of l' tx' rx' (drop (at + n) src) d') end
-  again {idle} {l = l} {d = d} {tx = tx} {rx = rx} h i a f =
-      let s = progress_of l tx rx (drop at src) d in
-      let g = rw (rest src at) at f in
-      rw (← drop-drop, g.link, g.drops, g.transmit, g.receive, g.count, ← left_is s) (ahead_next idle s (rw length-drop (omega arith)) i a)
+-- the bytes taken and those left are all
+pub still_all : (at : ℕ) {m n : ℕ} {s : Progress} {l : PPPoS} {d : Drops} {tx rx : List ℕ} (left : List ℕ) → at + length left ≡ m → Feeds s left n l d tx rx
+    → at + n + length (take (length left - n) (drop n left)) ≡ m
+still_all at {n = n} left h f = rw (rest left n, length-drop n left) (omega (arith, f.count))
 
-  pub fits : {m : ℕ} (d : Drops) → at ≤ length src → all_of d ≤ at → length src < m → all_of d + length (take (length src - at) (drop at src)) < m
-  fits d h k l = omega (arith, ap length (rest src at), length-drop at src)
+-- no more is dropped than is taken
+pub still_few : {at n : ℕ} {l' : PPPoS} {d' : Drops} {tx' rx' : List ℕ} (l : PPPoS) (tx rx left : List ℕ) (d : Drops) → all_of d ≤ at
+    → Feeds (one_turn (progress_of l tx rx left d)) left n l' d' tx' rx' → all_of d' ≤ at + n
+still_few l tx rx left d h f = rw (f.drops, f.count) (omega (arith, turn_most (progress_of l tx rx left d)))
 
-  -- no more is dropped than is taken
-  pub still_few : {n : ℕ} {l' : PPPoS} {d' : Drops} {tx' rx' : List ℕ} (l : PPPoS) (tx rx : List ℕ) (d : Drops) → all_of d ≤ at
-      → Feeds (one_turn (progress_of l tx rx (take (length src - at) (drop at src)) d)) (take (length src - at) (drop at src)) n l' d' tx' rx'
-      → all_of d' ≤ at + n
-  still_few l tx rx d h f =
-      rw (f.drops, f.count) (omega (arith, turn_most (progress_of l tx rx (take (length src - at) (drop at src)) d)))
-
-  pub finished : {idle : ℕ} {l : PPPoS} {d : Drops} {tx rx : List ℕ} {end : Progress} → at ≤ length src → (at < length src → 2 ≤ idle)
-      → Ahead idle (progress_of l tx rx (drop at src) d) end → Feeds end src at l d tx rx
-  finished {idle} {l} {d} {tx} {rx} h i a =
-      rw (← ahead_end idle (progress_of l tx rx (drop at src) d) (λ z. i (omega (arith, length-drop at src))) a)
-      (record { count = rw length-drop (omega arith); link = refl; drops = refl; transmit = refl; receive = refl })
-
-pub fewer : (m at idle n : ℕ) → at < m → at + n ≤ m → idle < 2 → 2 * (m - (at + n)) + (2 - idle_after idle n) < 2 * (m - at) + (2 - idle)
-fewer m at idle n h k i =
-    by_test (eqb n 0)
-    (λ z. rw z (omega (arith, eqb-true n 0 z)))
-    (λ z. rw z (omega (arith, eqb-false n 0 z)))
-
-pub idle_most : (idle n : ℕ) → idle < 2 → idle_after idle n ≤ 2
-idle_most idle n h = cond_all (λ (m : ℕ). m ≤ 2) (eqb n 0) (omega arith) (omega arith)
+pub finished : {at idle : ℕ} {l : PPPoS} {d : Drops} {tx rx : List ℕ} {end : Progress} (src left : List ℕ) → at + length left ≡ length src → (0 < length left → 2 ≤ idle)
+    → Ahead idle (progress_of l tx rx left d) end → Feeds end src at l d tx rx
+finished {idle = idle} {l} {d} {tx} {rx} src left h i a =
+    rw (← ahead_end idle (progress_of l tx rx left d) i a)
+    (record { count = omega arith; link = refl; drops = refl; transmit = refl; receive = refl })

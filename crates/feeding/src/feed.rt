@@ -6,7 +6,7 @@ ghost use Rattle.feeding.specs.Feed.{started, idle_after, fed_link, Feeds, progr
 
 use framing::drops::Drops;
 use link::choices::Choices;
-use link::pppos::{PPPoS, Polled};
+use link::pppos::{Consumed, PPPoS, Polled};
 
 #[derive(Clone, Copy)]
 pub struct Fed {
@@ -20,13 +20,11 @@ pub struct Fed {
 pub fn start(choices: Choices, tx: &mut [u8], rx: &mut [u8]) -> Polled
     ensures { Polls (started choices tx.old rx.old) result.action result.link tx.new rx.new }
 {
-    let c = PPPoS::new(b"", b"", choices);
-    let l = c.link;
-    let o = l.open();
-    let l = o.link;
-    l.poll(tx, rx)
+    let made = PPPoS::new(b"", b"", choices);
+    made.link.open().link.poll(tx, rx)
 }
 
+// No `Add`: it is no sum of whole numbers for any two.
 fn together(c: Drops, d: Drops) -> Drops
     requires { all_of c + all_of d < 2 ^ 64 }
     ensures { result ≡ together c d }
@@ -45,14 +43,12 @@ fn turn(link: PPPoS, before: Drops, tx: &mut [u8], rx: &mut [u8], src: &[u8]) ->
     requires { all_of before + length src.now < 2 ^ 64 }
     ensures { Feeds (one_turn (progress_of link tx.old rx.old src.now before)) src.now result.count result.link result.drops tx.new rx.new }
 {
-    let c = link.consume(src, rx);
-    let count = c.count;
-    let d = c.drops;
-    let drops = together(before, d);
-    let l = c.link;
-    let p = l.poll(tx, rx);
-    let link = p.link;
-    Fed { count, link, drops }
+    let Consumed { taken, link, drops } = link.consume(src, rx);
+    Fed {
+        count: taken.unwrap_or(0),
+        link: link.poll(tx, rx).link,
+        drops: together(before, drops),
+    }
 }
 
 fn idle_after(idle: usize, n: usize) -> usize
@@ -66,30 +62,21 @@ fn idle_after(idle: usize, n: usize) -> usize
 pub fn feed(link: PPPoS, tx: &mut [u8], rx: &mut [u8], src: &[u8]) -> Fed
     ensures { Feeds (fed_link link tx.old rx.old src.now) src.now result.count result.link result.drops tx.new rx.new }
 {
-    let mut l = link;
-    let mut at = 0;
+    let mut fed = Fed {
+        count: 0,
+        link,
+        drops: Drops::none(),
+    };
+    let mut rest = src;
     let mut idle = 0;
-    let mut drops = Drops::none();
-    while at < src.len() {
-        if idle == 2 {
-            return Fed {
-                count: at,
-                link: l,
-                drops,
-            };
-        }
-        let t = turn(l, drops, tx, rx, &src[at..]);
-        let next = t.link;
-        l = next;
-        let n = t.count;
-        let d = t.drops;
-        drops = d;
-        at += n;
-        idle = idle_after(idle, n);
+    while !rest.is_empty() && idle < 2 {
+        let t = turn(fed.link, fed.drops, tx, rx, rest);
+        idle = idle_after(idle, t.count);
+        rest = &rest[t.count..];
+        fed = Fed {
+            count: fed.count + t.count,
+            ..t
+        };
     }
-    Fed {
-        count: at,
-        link: l,
-        drops,
-    }
+    fed
 }

@@ -8,15 +8,15 @@ use Prim.Native.Nat.{ℕ}
 use lib.Dec.{ltb, eqb}
 use lib.ListN.{length}
 use Rattle.laws.proofs.Cases.{by_test, cond_by, cond_all}
-use Rattle.framing.specs.Reader.{is_crate, is_complete, fresh_reader, moved, marks, escape_after, aborts, fault_of, is_good, ended, Held, held, step_by, step, full, Fed, fed, is_short, consumed, Consumes, Receives}
+use Rattle.std.specs.Prelude.{Result}
+use Rattle.framing.specs.Reader.{is_crate, is_complete, fresh_reader, moved, marks, escape_after, aborts, fault_of, is_good, ended, Held, held, step_by, step, full, Fed, fed, is_short, consumed, Consumes, Got, Receives}
 use Rattle.framing.specs.Clean.{ends_good, EndsClean, CleanIn, Clean}
-use Rattle.framing.specs.declared.refusal.Outcome.{Outcome}
+use Rattle.framing.specs.declared.refusal.Refusal.{Refusal}
 use Rattle.framing.specs.declared.frame_reader.State.{State}
 use Rattle.framing.specs.declared.frame_reader.State.TheVariants.{Start, Address, Data, Complete}
 use Rattle.framing.specs.declared.frame_reader.Reading.{Reading}
 use Rattle.framing.specs.declared.frame_reader.Reading.TheVariants.{Standard}
 use Rattle.framing.specs.declared.frame_reader.FrameReader.{FrameReader}
-use Rattle.framing.specs.declared.frame_reader.Got.{Got}
 
 -- ---- one frame's end
 
@@ -93,7 +93,7 @@ consumed_clean : (s : Held) (bs : List ℕ) → Clean s.reader → Clean (consum
 unfolding consumed
 consumed_clean s bs h = cond_all (λ (f : Fed). Clean f.now.reader) (is_short s) h (fed_clean s bs h)
 
-pub consumes_clean : {s : Held} {bs buf : List ℕ} {o : Outcome} {n : ℕ} {r : FrameReader} → Consumes s bs o n r buf → Clean s.reader → Clean r
+pub consumes_clean : {s : Held} {bs buf : List ℕ} {t : Result ℕ Refusal} {r : FrameReader} → Consumes s bs t r buf → Clean s.reader → Clean r
 consumes_clean {s} {bs} c h = rw c.reader (consumed_clean s bs h)
 
 complete_clean : (r : FrameReader) (t : State) → is_complete t ≡ true → CleanIn t r → r.escape ≡ false

@@ -12,12 +12,13 @@ use lib.Dec.{ltb, eqb}
 use lib.ListN.{length, get_or, drop, drop_of_length-le}
 use lib.Seq.{drop-cons}
 use Rattle.laws.proofs.Cases.{by_test, by_le}
+use Rattle.std.specs.Prelude.{Option, None, Some}
 use Rattle.framing.specs.Reader.{marks, aborts, fault_in, Held, held, step, full, fed, consumed}
 use Rattle.framing.specs.Heard.{fetched_in, Heard, heard}
 use Rattle.framing.specs.Drops.{fault_by, fault_at, no_drops, one_drop, together, all_of, drops, dropped, missed}
 use Rattle.framing.specs.declared.drops.Drops.{Drops}
 use Rattle.framing.specs.declared.drops.Fault.{Fault}
-use Rattle.framing.specs.declared.drops.Fault.TheVariants.{None, Aborted, Short, Control, Check, Overrun}
+use Rattle.framing.specs.declared.drops.Fault.TheVariants.{Aborted, Short, Control, Check, Overrun}
 use Rattle.framing.specs.declared.frame_reader.State.{State}
 use Rattle.framing.specs.declared.frame_reader.State.TheVariants.{Start, Address, Data, Complete}
 use Rattle.framing.specs.declared.frame_reader.FrameReader.{FrameReader}
@@ -38,13 +39,13 @@ together_assoc c d e = simp add_assoc
 pub all_together : (c d : Drops) → all_of (together c d) ≡ all_of c + all_of d
 all_together c d = omega arith
 
-pub one_most : (f : Fault) → all_of (one_drop f) ≤ 1
+pub one_most : (f : Option Fault) → all_of (one_drop f) ≤ 1
 one_most None = omega arith
-one_most Aborted = omega arith
-one_most Short = omega arith
-one_most Control = omega arith
-one_most Check = omega arith
-one_most Overrun = omega arith
+one_most (Some Aborted) = omega arith
+one_most (Some Short) = omega arith
+one_most (Some Control) = omega arith
+one_most (Some Check) = omega arith
+one_most (Some Overrun) = omega arith
 
 -- ---- a run of bytes
 
@@ -179,7 +180,7 @@ fault_alike s t b h =
     go Data =
         let r = s.reader in
         ap₂
-        (λ (l : List ℕ) (n : ℕ). cond (eqb b 0x7E) (cond (aborts r) Aborted (fault_in l)) (cond (marks r b) None (cond (ltb r.len n) None Overrun)))
+        (λ (l : List ℕ) (n : ℕ). cond (eqb b 0x7E) (cond (aborts r) (Some Aborted) (fault_in l)) (cond (marks r b) None (cond (ltb r.len n) None (Some Overrun))))
         h.same_kept h.same_room
     go Complete = refl
 
@@ -187,5 +188,5 @@ pub missed_alike : (s t : Held) (bs : List ℕ) → Alike s t → missed s bs �
 unfolding missed
 missed_alike s t [] h = refl
 missed_alike s t (b ∷ bs) h =
-    ap₂ (λ (f : Fault) (d : Drops). together (one_drop f) d) (fault_alike s t b h)
+    ap₂ (λ (f : Option Fault) (d : Drops). together (one_drop f) d) (fault_alike s t b h)
     (missed_alike (fetched_in (step s b)) (fetched_in (step t b)) bs (fetched_alike (step s b) (step t b) (step_alike s t b h)))

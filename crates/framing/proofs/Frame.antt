@@ -11,10 +11,11 @@ use lib.ListN.{length, length-append}
 use lib.Seq.{sets}
 use Rattle.laws.proofs.Cases.{by_le}
 use Rattle.laws.proofs.Stores.{sets_front}
+use Rattle.std.specs.Prelude.{Result}
 use Rattle.framing.specs.Rfc1662.{fcs, fcs_bits, check_bytes, unit, stuffed, frame}
-use Rattle.framing.specs.Refusal.{outcome_number}
+use Rattle.framing.specs.Refusal.{outcome_number, count_of}
 use Rattle.framing.specs.Writer.{Ran, frame_units, join, fit, holds, laid, over, Encodes}
-use Rattle.framing.specs.declared.refusal.Outcome.{Outcome}
+use Rattle.framing.specs.declared.refusal.Refusal.{Refusal}
 use Rattle.framing.proofs.Run.{write_closed, fit_le, fit_all, join_nil, join_cons, join-append, join-units}
 use Rattle.framing.proofs.Stuffing.{stuffed-append}
 use Rattle.framing.proofs.Unstuffing.{control_on, stuffed-fields, frame-length}
@@ -64,13 +65,16 @@ module _ (m : ℕ) (p : List ℕ) {buf buf' : List ℕ} {n : ℕ} {t : Bool} (ra
   frame_count : holds m p (length buf) ≡ true → n ≡ length (frame m p)
   frame_count e = ran.same_at ∙ sym closed.same_at ∙ ap length fitted ∙ rw e
 
-  pub encodes : {o : Outcome} {k : ℕ} → outcome_number o ≡ cond t 0 1 → k ≡ cond t n 0 → Encodes m p buf o k buf'
-  encodes {o} {k} a b =
+  pub encodes : {r : Result ℕ Refusal} → outcome_number r ≡ cond t 0 1 → count_of r ≡ cond t n 0 → Encodes m p buf r buf'
+  encodes {r} a b =
       record {
         number = rw frame-done at a;
         lays = record { count = go (holds m p (length buf)) refl (rw frame-done at b); bytes = frame_bytes };
       }
     where
+      k : ℕ
+      k = count_of r
+
       go : (h : Bool) → holds m p (length buf) ≡ h → k ≡ cond h n 0 → k ≡ cond h (length (frame m p)) 0
       go true e f = f ∙ frame_count e
       go false e f = f

@@ -13,9 +13,10 @@ use Rattle.laws.specs.Each.{Bytes}
 use Rattle.laws.proofs.Each.{each_right}
 use Rattle.laws.proofs.Ends.{last_two}
 use Rattle.laws.proofs.Stores.{sets_front}
+use Rattle.std.specs.Prelude.{None, Some}
 use Rattle.framing.specs.Rfc1662.{fcs}
 use Rattle.framing.specs.Reader.{fault_in, is_good, packet_of}
-use Rattle.framing.specs.declared.drops.Fault.TheVariants.{None, Short, Control, Check}
+use Rattle.framing.specs.declared.drops.Fault.TheVariants.{Short, Control, Check}
 use Rattle.framing.specs.declared.frame_reader.Reading.{Reading}
 use Rattle.framing.proofs.Fcs.{fcs-append, fcs_lt, fcs_good}
 use Rattle.framing.proofs.Only.{fcs_only}
@@ -37,7 +38,7 @@ holds_by m a b ha hb e =
     (fcs_only (fcs 0x00FF (0x03 ∷ m)) a b (fcs_lt 0x00FF (0x03 ∷ m) (omega arith)) ha hb (sym (fcs-append 0x00FF (0x03 ∷ m) (a ∷ b ∷ [])) ∙ e))
 
 -- what the three tests say where there is no fault
-tests : (a b c : Bool) → is_good (cond a Short (cond (not b) Control (cond (not c) Check None))) ≡ true → (a ≡ false) × (b ≡ true) × (c ≡ true)
+tests : (a b c : Bool) → is_good (cond a (Some Short) (cond (not b) (Some Control) (cond (not c) (Some Check) None))) ≡ true → (a ≡ false) × (b ≡ true) × (c ≡ true)
 tests true b c e = absurd (false≢true e)
 tests false false c e = absurd (false≢true e)
 tests false true false e = absurd (false≢true e)

@@ -18,4 +18,3 @@ pub mod SameReading
 pub mod Stuffing
 pub mod Unstuffing
 mod Walking
-pub mod Writes

@@ -7,22 +7,31 @@ use Prim.Native.Nat.{ℕ, suc, ◌+◌, ◌-◌, ◌≤◌, ◌<◌}
 use native.Mathlib.Omega.{arith}
 use native.Mathlib.Numerals.{add-one}
 use borrow.Author.Tests.{ltb-true, lt-ltb, le-ltb}
+use denote.Enum.Bare.{sameb}
 use lib.Dec.{ltb, eqb}
 use lib.ListN.{length, get_or, take, drop, length-take, length-drop, length-set, take-append-drop, drop_of_length-le}
 use lib.Seq.{drop-cons, take-suc-set}
 use Rattle.laws.specs.Quiet.{Quiet, none, more}
 use Rattle.laws.proofs.Cases.{by_test, by_le, cond_by, cond_all, cond_both}
 use Rattle.laws.proofs.Parts.{same_part}
-use Rattle.framing.specs.Reader.{is_crate, is_complete, fresh_reader, next, moved, marks, plain_of, escape_after, len_after, aborts, fault_in, fault_of, is_good, ended, Held, held, stored, step_by, step, full, Fed, fed, is_short, consumed, Consumes, Framed, packet_of, got_number, Receives}
+use Rattle.std.specs.Prelude.{Some, Result, Ok, Err}
+use Rattle.framing.specs.Refusal.{outcome_number, count_of}
+use Rattle.framing.specs.Reader.{is_crate, is_complete, fresh_reader, next, moved, marks, plain_of, escape_after, len_after, aborts, fault_in, fault_of, is_good, ended, Held, held, stored, step_by, step, full, Fed, fed, is_short, consumed, Consumes, Framed, packet_of, Got, Receives}
 use Rattle.framing.specs.declared.refusal.Refusal.TheVariants.{BufferShort}
-use Rattle.framing.specs.declared.refusal.Outcome.{Outcome}
-use Rattle.framing.specs.declared.refusal.Outcome.TheVariants.{Done, Refused}
+use Rattle.framing.specs.declared.refusal.Refusal.{Refusal}
+use Rattle.framing.specs.contracts.frame_reader.State.{the_type}
 use Rattle.framing.specs.declared.frame_reader.State.{State}
 use Rattle.framing.specs.declared.frame_reader.State.TheVariants.{Start, Address, Data, Complete}
 use Rattle.framing.specs.declared.frame_reader.FrameReader.{FrameReader}
 use Rattle.framing.specs.declared.drops.Fault.TheVariants.{Aborted}
-use Rattle.framing.specs.declared.frame_reader.Got.{Got}
 use Rattle.framing.specs.declared.frame_reader.Reading.{Reading}
+
+-- the code's test
+pub complete_same : (s : State) → sameb the_type s Complete ≡ is_complete s
+complete_same Start = refl
+complete_same Address = refl
+complete_same Data = refl
+complete_same Complete = refl
 
 -- ---- the kept length stays within the buffer
 
@@ -99,7 +108,7 @@ unfolding fed
 fed_framed s [] h = h
 fed_framed s (b ∷ bs) h = cond_all (λ (f : Fed). Framed f.now.reader) (full s) h (fed_framed (step s b) bs (step_framed s b h))
 
-pub receives_done : {r r' : FrameReader} {g : Got} → Framed r → Receives r g r' → got_number g ≡ 0
+pub receives_done : {r r' : FrameReader} {g : Got} → Framed r → Receives r g r' → outcome_number g ≡ 0
 receives_done {r} h k =
     k.number
     ∙ by_test (is_complete r.state) (λ t. rw (t, le-ltb r.len 3 (h t))) (λ t. rw t)
@@ -206,7 +215,7 @@ consumed_split s bs =
     ∙ take-append-drop (length bs - length (consumed s bs).left) bs
 
 -- a call that is refused, and one that stops at index i
-pub consumes_short : (s : Held) (bs : List ℕ) → length s.buf < s.reader.len → Consumes s bs (Refused BufferShort) 0 s.reader s.buf
+pub consumes_short : (s : Held) (bs : List ℕ) → length s.buf < s.reader.len → Consumes s bs (Err BufferShort) s.reader s.buf
 consumes_short s bs h =
     let e = consumed_short s bs h in
     record {
@@ -216,7 +225,7 @@ consumes_short s bs h =
       bytes = rw e;
     }
 
-pub consumes_at : (s t : Held) (i : ℕ) (bs : List ℕ) → s.reader.len ≤ length s.buf → i ≤ length bs → fed s bs ≡ record { now = t; left = drop i bs } → Consumes s bs Done i t.reader t.buf
+pub consumes_at : (s t : Held) (i : ℕ) (bs : List ℕ) → s.reader.len ≤ length s.buf → i ≤ length bs → fed s bs ≡ record { now = t; left = drop i bs } → Consumes s bs (Ok i) t.reader t.buf
 consumes_at s t i bs h k f =
     let e = consumed-fed s bs h ∙ f in
     record {
@@ -227,11 +236,11 @@ consumes_at s t i bs h k f =
     }
 
 -- what a call's count says
-module _ {s : Held} {bs : List ℕ} {o : Outcome} {n : ℕ} {r : FrameReader} {buf : List ℕ} (h : Consumes s bs o n r buf) where
-  pub count_le : n ≤ length bs
+module _ {s : Held} {bs : List ℕ} {t : Result ℕ Refusal} {r : FrameReader} {buf : List ℕ} (h : Consumes s bs t r buf) where
+  pub count_le : count_of t ≤ length bs
   count_le = omega (arith, h.count)
 
-  pub count_left : (consumed s bs).left ≡ drop n bs
+  pub count_left : (consumed s bs).left ≡ drop (count_of t) bs
   count_left = rw h.count (consumed_left s bs)
 
   pub call_now : (consumed s bs).now ≡ held r buf
@@ -255,7 +264,7 @@ module _ (x y : List ℕ) (e : length x ≡ length y) where
 
   ended_alike : (r : FrameReader) → take r.len x ≡ take r.len y → Alike (held (ended r x) x) (held (ended r y) y)
   ended_alike r q =
-      cond_both (λ (a b : FrameReader). Alike (held a x) (held b y)) (ap (λ (l : List ℕ). is_good (cond (aborts r) Aborted (fault_in l))) q)
+      cond_both (λ (a b : FrameReader). Alike (held a x) (held b y)) (ap (λ (l : List ℕ). is_good (cond (aborts r) (Some Aborted) (fault_in l))) q)
       (λ _. pair (next r Complete (escape_after r) r.len) q)
       (λ _. pair (next r Address (escape_after r) (len_after r)) (cond_all (λ (n : ℕ). take n x ≡ take n y) (is_crate r.reading) q refl))
 

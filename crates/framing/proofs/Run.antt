@@ -1,6 +1,6 @@
--- Laws of a run of units: one unit, one run behind another, where a run ends, and its closed form.
+-- Laws of a run of units: one unit, one run behind another, and its closed form.
 -- Assumes nothing.
-use mathlib.Core.Path.{◌≡◌, refl, ap, sym, ◌∙◌}
+use mathlib.Core.Path.{◌≡◌, refl, ap, sym}
 use mathlib.Core.Bool.{Bool, true, false, cond}
 use mathlib.Core.List.{List, [], ◌∷◌, ◌++◌, append_assoc}
 use Prim.Native.Nat.{ℕ, ◌+◌, ◌-◌, ◌≤◌, ◌<◌}
@@ -59,14 +59,9 @@ onward_turn {us} {buf} {buf'} {at} l vs = rw (l.same_bytes, l.same_at, l.same_do
 ran_of : {us : List (List ℕ)} {buf₀ buf : List ℕ} {at₀ at : ℕ} {t : Bool} → record { bytes = buf; at = at; done = t } ≡ write us buf₀ at₀ → Ran us buf₀ at₀ buf at t
 ran_of e = record { same_bytes = ap (λ (o : Out). o.bytes) e; same_at = ap (λ (o : Out). o.at) e; same_done = ap (λ (o : Out). o.done) e }
 
--- where the run was stopped, or where no unit is left, all is done
+-- where the run was stopped, all is done
 pub onward_stop : {us : List (List ℕ)} {buf₀ buf : List ℕ} {at₀ at : ℕ} {t : Bool} → (vs : List (List ℕ)) → onward t buf at vs ≡ write us buf₀ at₀ → t ≡ false → Ran us buf₀ at₀ buf at t
 onward_stop vs l e = rw e (ran_of (rw e at l))
-
-pub onward_none : {us : List (List ℕ)} {buf₀ buf : List ℕ} {at₀ at : ℕ} → (t : Bool) → onward t buf at [] ≡ write us buf₀ at₀ → Ran us buf₀ at₀ buf at t
-unfolding write
-onward_none true l = ran_of l
-onward_none false l = ran_of l
 
 -- a run that was done goes on from where it ended, and one that was stopped stays
 pub run_next : {us : List (List ℕ)} {buf buf' : List ℕ} {at at' : ℕ} {t : Bool} → Ran us buf at buf' at' t → t ≡ true → (vs : List (List ℕ)) → write (us ++ vs) buf at ≡ write vs buf' at'
@@ -81,27 +76,6 @@ run_is l e = record { same_bytes = rw e at l.same_bytes; same_at = rw e at l.sam
 
 pub run_then : {us vs : List (List ℕ)} {buf buf' buf'' : List ℕ} {at at' at'' : ℕ} {t t' : Bool} → Ran us buf at buf' at' t → t ≡ true → Ran vs buf' at' buf'' at'' t' → Ran (us ++ vs) buf at buf'' at'' t'
 run_then {us} {vs} l e m = run_is m (sym (run_next l e vs))
-
--- ---- where a run ends
-
-write-length : (us : List (List ℕ)) (buf : List ℕ) (at : ℕ) → length (write us buf at).bytes ≡ length buf
-unfolding write
-write-length [] buf at = refl
-write-length (u ∷ us) buf at =
-    cond_by (λ (o : Out). length o.bytes ≡ length buf) (leb (at + length u) (length buf))
-    (λ _. write-length us (sets buf at u) (at + length u) ∙ length-sets buf at u)
-    (λ _. refl)
-
-write_within : (us : List (List ℕ)) (buf : List ℕ) (at : ℕ) → at ≤ length buf → (write us buf at).at ≤ length buf
-unfolding write
-write_within [] buf at h = h
-write_within (u ∷ us) buf at h =
-    cond_by (λ (o : Out). o.at ≤ length buf) (leb (at + length u) (length buf))
-    (λ e. rw length-sets at (write_within us (sets buf at u) (at + length u) (rw length-sets (leb-true _ _ e))))
-    (λ _. h)
-
-pub run_within : {us : List (List ℕ)} {buf buf' : List ℕ} {at at' : ℕ} {t : Bool} → Ran us buf at buf' at' t → at ≤ length buf → at' ≤ length buf'
-run_within {us} {buf} {buf'} {at} l h = rw (l.same_at, l.same_bytes, write-length us buf at) (write_within us buf at h)
 
 -- ---- bytes as units
 

@@ -1,12 +1,11 @@
 -- Laws of a walk over bytes: what stopped it stays, and one behind another is the walk over both.
 -- Assumes nothing.
-use mathlib.Core.Path.{◌≡◌, refl, ap, sym, ◌∙◌}
+use mathlib.Core.Path.{◌≡◌, ap, sym, ◌∙◌}
 use mathlib.Core.Bool.{Bool, true, false}
 use mathlib.Core.List.{List, ◌++◌}
 use Prim.Native.Nat.{ℕ}
-use Rattle.laws.proofs.Cases.{cond_both}
 use Rattle.framing.specs.Rfc1662.{fcs}
-use Rattle.framing.specs.Writer.{units, Walked, written}
+use Rattle.framing.specs.Writer.{units, Walked}
 use Rattle.framing.proofs.Run.{run_stop, run_then, units-append}
 use Rattle.framing.proofs.Fcs.{fcs-append}
 
@@ -20,7 +19,3 @@ module _ {m : ℕ} {bs buf buf' : List ℕ} {at c at' c' : ℕ} {t : Bool} (w : 
         ran = rw (units-append m bs cs) (run_then w.ran e v.ran);
         check = λ d. v.check d ∙ ap (λ (s : ℕ). fcs s cs) (w.check e) ∙ sym (fcs-append c bs cs);
       }
-
-  -- a writer takes the walk's check value where all fitted, and else keeps full
-  pub walked_writer : (full k : ℕ) → written t at' full c' k ≡ written t at' full (fcs c bs) k
-  walked_writer full k = ap (λ (s : ℕ). record { len = at'; crc = s; asyncmap = k }) (cond_both ◌≡◌ refl w.check (λ _. refl))

@@ -1,18 +1,17 @@
 -- What the frame reader does, in both readings: one byte, a run of bytes, a fetch.
-use Rattle.std.specs.Prelude.{◌≡◌, Bool, true, false, cond, ◌&&◌, ◌||◌, not, List, [], ◌∷◌, ℕ, ◌+◌, ◌-◌, ◌≤◌, ltb, leb, eqb, length, get_or, take, drop, set}
+use Rattle.std.specs.Prelude.{◌≡◌, Bool, true, false, cond, ◌&&◌, ◌||◌, not, List, [], ◌∷◌, ℕ, ◌+◌, ◌-◌, ◌≤◌, ltb, leb, eqb, length, get_or, take, drop, set, Option, None, Some, Result, Ok, Err}
 use Rattle.std.specs.Int.Bits.{bit_xor}
 use Rattle.framing.specs.Rfc1662.{fcs}
-use Rattle.framing.specs.Refusal.{number_of, outcome_number}
-use Rattle.framing.specs.declared.refusal.Outcome.{Outcome}
+use Rattle.framing.specs.Refusal.{outcome_number, count_of}
+use Rattle.framing.specs.declared.refusal.Refusal.{Refusal}
 use Rattle.framing.specs.declared.frame_reader.State.{State}
 use Rattle.framing.specs.declared.frame_reader.State.TheVariants.{Start, Address, Data, Complete}
 use Rattle.framing.specs.declared.frame_reader.Reading.{Reading}
 use Rattle.framing.specs.declared.frame_reader.Reading.TheVariants.{Crate, Standard}
 use Rattle.framing.specs.declared.frame_reader.FrameReader.{FrameReader}
 use Rattle.framing.specs.declared.drops.Fault.{Fault}
-use Rattle.framing.specs.declared.drops.Fault.TheVariants.{None, Aborted, Short, Control, Check, Overrun}
-use Rattle.framing.specs.declared.frame_reader.Got.{Got}
-use Rattle.framing.specs.declared.frame_reader.Got.TheVariants.{Packet, Refused, Nothing}
+use Rattle.framing.specs.declared.drops.Fault.TheVariants.{Aborted, Short, Control, Check}
+use Rattle.framing.specs.declared.frame_reader.Span.{Span}
 
 abbrev pub is_crate : Reading → Bool
 is_crate Crate = true
@@ -54,23 +53,19 @@ abbrev pub aborts : FrameReader → Bool
 aborts r = r.escape && not (is_crate r.reading)
 
 -- what is wrong with the kept bytes: under three of them, the first not 03, or the residue wrong
-unfoldable pub fault_in : List ℕ → Fault
+unfoldable pub fault_in : List ℕ → Option Fault
 fault_in kept =
-    cond (ltb (length kept) 3) Short
-    (cond (not (eqb (get_or kept 0 0) 0x03)) Control
-    (cond (not (eqb (fcs 0x00FF kept) 0xF0B8)) Check None))
+    cond (ltb (length kept) 3) (Some Short)
+    (cond (not (eqb (get_or kept 0 0) 0x03)) (Some Control)
+    (cond (not (eqb (fcs 0x00FF kept) 0xF0B8)) (Some Check) None))
 
 -- why a frame end gives no frame; of an aborted one the kept bytes are not looked at
-abbrev pub fault_of : FrameReader → List ℕ → Fault
-fault_of r buf = cond (aborts r) Aborted (fault_in (take r.len buf))
+abbrev pub fault_of : FrameReader → List ℕ → Option Fault
+fault_of r buf = cond (aborts r) (Some Aborted) (fault_in (take r.len buf))
 
-abbrev pub is_good : Fault → Bool
+abbrev pub is_good : Option Fault → Bool
 is_good None = true
-is_good Aborted = false
-is_good Short = false
-is_good Control = false
-is_good Check = false
-is_good Overrun = false
+is_good (Some f) = false
 
 -- a good frame is complete; the end of any other is the flag before the next
 abbrev pub ended : FrameReader → List ℕ → FrameReader
@@ -129,9 +124,9 @@ unfoldable pub consumed : Held → List ℕ → Fed
 consumed s bs = cond (is_short s) (record { now = s; left = bs }) (fed s bs)
 
 -- a call that is handed bs: its refusal number, its count, and the reader and the buffer that it leaves
-pub record Consumes (s : Held) (bs : List ℕ) (o : Outcome) (n : ℕ) (r : FrameReader) (buf : List ℕ) : Type 0 where
-  pub number : outcome_number o ≡ cond (is_short s) 3 0
-  pub count : n ≡ length bs - length (consumed s bs).left
+pub record Consumes (s : Held) (bs : List ℕ) (t : Result ℕ Refusal) (r : FrameReader) (buf : List ℕ) : Type 0 where
+  pub number : outcome_number t ≡ cond (is_short s) 3 0
+  pub count : count_of t ≡ length bs - length (consumed s bs).left
   pub reader : r ≡ (consumed s bs).now.reader
   pub bytes : buf ≡ (consumed s bs).now.buf
 
@@ -147,19 +142,18 @@ Framed r = is_complete r.state ≡ true → 3 ≤ r.len
 abbrev pub packet_of : Held → List ℕ
 packet_of s = take (s.reader.len - 2 - 1) (drop 1 s.buf)
 
-abbrev pub got_number : Got → ℕ
-got_number (Packet from to) = 0
-got_number (Refused r) = number_of r
-got_number Nothing = 0
+-- what a call that fetches answers: the packet's range, if there is one
+abbrev pub Got : Type 0
+Got = Result (Option Span) Refusal
 
 -- the ends of the packet, where there is one
 abbrev pub got_range : Got → List ℕ
-got_range (Packet from to) = from ∷ to ∷ []
-got_range (Refused r) = []
-got_range Nothing = []
+got_range (Ok None) = []
+got_range (Ok (Some r)) = r.start ∷ r.end ∷ []
+got_range (Err r) = []
 
 -- a call that fetches: its refusal number, the packet's range, and the reader that it leaves
 pub record Receives (r : FrameReader) (g : Got) (r' : FrameReader) : Type 0 where
-  pub number : got_number g ≡ cond (is_complete r.state && ltb r.len 3) 5 0
+  pub number : outcome_number g ≡ cond (is_complete r.state && ltb r.len 3) 5 0
   pub range : got_range g ≡ cond (is_complete r.state && leb 3 r.len) (1 ∷ (r.len - 2) ∷ []) []
   pub reader : r' ≡ cond (is_complete r.state) (fetched r) r

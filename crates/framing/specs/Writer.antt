@@ -1,9 +1,10 @@
 -- What the frame writer does: units go into a lent buffer one behind the other, and the first that does not fit ends the run.
-use Rattle.std.specs.Prelude.{◌≡◌, Bool, true, false, cond, List, [], ◌∷◌, ◌++◌, ℕ, ◌+◌, ◌-◌, ◌^◌, leb, ltb, length, drop}
+use Rattle.std.specs.Prelude.{◌≡◌, Bool, true, false, cond, List, [], ◌∷◌, ◌++◌, ℕ, ◌+◌, ◌-◌, ◌^◌, leb, ltb, length, drop, Result, Ok, Err}
 use Rattle.std.proofs.lemmas.List.Edits.{sets}
 use Rattle.framing.specs.Rfc1662.{fcs, check_bytes, unit, frame}
-use Rattle.framing.specs.Refusal.{outcome_number}
-use Rattle.framing.specs.declared.refusal.Outcome.{Outcome}
+use Rattle.framing.specs.Refusal.{outcome_number, count_of}
+use Rattle.framing.specs.declared.refusal.Refusal.{Refusal}
+use Rattle.framing.specs.declared.frame_writer.Full.{Full}
 use Rattle.framing.specs.declared.frame_writer.FrameWriter.{FrameWriter}
 
 -- bytes as units: a byte that is escaped or plain is one
@@ -40,6 +41,20 @@ pub record Ran (us : List (List ℕ)) (buf : List ℕ) (at : ℕ) (buf' : List �
   pub same_at : at' ≡ (write us buf at).at
   pub same_done : t ≡ (write us buf at).done
 
+-- how far a run got: where the next unit goes, or where the one that does not fit was to go
+abbrev pub reached : Result ℕ Full → ℕ
+reached (Ok at) = at
+reached (Err full) = full.at
+
+-- the same of a walk, and the check value behind it where all fitted
+abbrev pub walked_to : Result (ℕ × ℕ) Full → ℕ
+walked_to (Ok w) = w.0
+walked_to (Err full) = full.at
+
+abbrev pub check_at : Result (ℕ × ℕ) Full → ℕ
+check_at (Ok w) = w.1
+check_at (Err full) = 0
+
 -- the bytes bs walked once, from index at of buf and the check value c: their units are run, and where all fitted the check value is that behind bs
 pub record Walked (m : ℕ) (bs buf : List ℕ) (at c : ℕ) (buf' : List ℕ) (at' c' : ℕ) (t : Bool) : Type 0 where
   pub ran : Ran (units m bs) buf at buf' at' t
@@ -57,19 +72,19 @@ abbrev pub written : Bool → ℕ → ℕ → ℕ → ℕ → FrameWriter
 written t at full crc m = record { len = at; crc = cond t crc full; asyncmap = m }
 
 -- a call that writes us: its refusal number, and the writer and the buffer that it leaves
-pub record Writes (us : List (List ℕ)) (full crc : ℕ) (w : FrameWriter) (buf : List ℕ) (o : Outcome) (w' : FrameWriter) (buf' : List ℕ) : Type 0 where
+pub record Writes (us : List (List ℕ)) (full crc : ℕ) (w : FrameWriter) (buf : List ℕ) (o : Result Unit Refusal) (w' : FrameWriter) (buf' : List ℕ) : Type 0 where
   pub number : outcome_number o ≡ cond (lent w buf) (cond (write us buf w.len).done 0 1) 3
   pub writer : w' ≡ cond (lent w buf) (written (write us buf w.len).done (write us buf w.len).at full crc w.asyncmap) w
   pub bytes : buf' ≡ cond (lent w buf) (write us buf w.len).bytes buf
 
 -- the writer's three calls: `start` sets the check value to 3DE3 even where a unit does not fit, `append` advances it only where all do, `finish` never changes it
-abbrev pub Starts : FrameWriter → List ℕ → Outcome → FrameWriter → List ℕ → Type 0
+abbrev pub Starts : FrameWriter → List ℕ → Result Unit Refusal → FrameWriter → List ℕ → Type 0
 Starts w = Writes (start_units w.asyncmap) 0x3DE3 0x3DE3 w
 
-abbrev pub Appends : List ℕ → FrameWriter → List ℕ → Outcome → FrameWriter → List ℕ → Type 0
+abbrev pub Appends : List ℕ → FrameWriter → List ℕ → Result Unit Refusal → FrameWriter → List ℕ → Type 0
 Appends bs w = Writes (units w.asyncmap bs) w.crc (fcs w.crc bs) w
 
-abbrev pub Finishes : FrameWriter → List ℕ → Outcome → FrameWriter → List ℕ → Type 0
+abbrev pub Finishes : FrameWriter → List ℕ → Result Unit Refusal → FrameWriter → List ℕ → Type 0
 Finishes w = Writes (finish_units w.asyncmap w.crc) w.crc w.crc w
 
 -- units as one run of bytes
@@ -99,9 +114,9 @@ pub record Lays (m : ℕ) (p buf : List ℕ) (n : ℕ) (buf' : List ℕ) : Type 
   pub count : n ≡ cond (holds m p (length buf)) (length (frame m p)) 0
   pub bytes : buf' ≡ over (laid m p (length buf)) buf
 
-pub record Encodes (m : ℕ) (p buf : List ℕ) (o : Outcome) (n : ℕ) (buf' : List ℕ) : Type 0 where
-  pub number : outcome_number o ≡ cond (holds m p (length buf)) 0 1
-  pub lays : Lays m p buf n buf'
+pub record Encodes (m : ℕ) (p buf : List ℕ) (r : Result ℕ Refusal) (buf' : List ℕ) : Type 0 where
+  pub number : outcome_number r ≡ cond (holds m p (length buf)) 0 1
+  pub lays : Lays m p buf (count_of r) buf'
 
 -- a length that a machine word may be too small for
 abbrev pub capped : ℕ → ℕ

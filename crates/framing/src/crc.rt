@@ -5,12 +5,6 @@ ghost use Rattle.framing.specs.Table.{Table};
 
 use crate::table::fcstab;
 
-fn wide(x: u8) -> u16
-    ensures { result ≡ x }
-{
-    x as u16
-}
-
 // Which entry: the low byte of the register with the byte in it.
 fn index(x: u32) -> usize
     ensures { result ≡ x % 256 }
@@ -23,16 +17,16 @@ fn step_by_table(table: &[u16], seed: u32, b: u8) -> u32
     requires { Table table.now }
     ensures { result ≡ fcs_byte seed b }
 {
-    (seed >> 8) ^ (table[index(seed ^ (b as u32))] as u32)
+    (seed >> 8) ^ u32::from(table[index(seed ^ u32::from(b))])
 }
 
 pub fn crc16(seed: u16, src: &[u8]) -> u16
     ensures { result ≡ fcs seed src.now }
 {
     let table = fcstab();
-    let mut s = seed as u32;
-    for i in 0..src.len() {
-        s = step_by_table(&table, s, src[i]);
+    let mut s = u32::from(seed);
+    for &b in src {
+        s = step_by_table(&table, s, b);
     }
     s as u16
 }
@@ -42,16 +36,17 @@ pub(crate) fn step(seed: u16, b: u8) -> u16
     ensures { result ≡ fcs_byte seed b }
 {
     let e = ((seed % 256) as u8) ^ b;
-    let f = wide(e ^ (e << 4));
+    let f = u16::from(e ^ (e << 4));
     (seed >> 8) ^ (f << 8) ^ (f << 3) ^ (f >> 4)
 }
 
+// A loop of its own beside the table's: document 02, 6/12 wants both, and one over a closure would be no shorter.
 pub fn crc16_by_formula(seed: u16, src: &[u8]) -> u16
     ensures { result ≡ fcs seed src.now }
 {
     let mut s = seed;
-    for i in 0..src.len() {
-        s = step(s, src[i]);
+    for &b in src {
+        s = step(s, b);
     }
     s
 }

@@ -1,12 +1,10 @@
 // Why the reader drops a frame, and how many it dropped for each cause (document 02, 5/12).
 ghost use Rattle.std.specs.Prelude.{◌≡◌, ◌+◌, ◌<◌, ◌^◌};
-ghost use Rattle.framing.specs.Reader.{is_good};
 ghost use Rattle.framing.specs.Drops.{no_drops, one_drop, together, all_of};
 
 // What is wrong with a frame that ends, the first that applies; or with one that goes on.
-#[derive(Clone, Copy)]
+#[derive(Clone, Copy, PartialEq, Eq)]
 pub enum Fault {
-    None,
     // An escape right before the flag, in standard reading.
     Aborted,
     // Under three bytes are kept.
@@ -20,26 +18,13 @@ pub enum Fault {
 }
 
 // How many, by fault.
-#[derive(Clone, Copy)]
+#[derive(Clone, Copy, PartialEq, Eq)]
 pub struct Drops {
     pub aborted: usize,
     pub short: usize,
     pub control: usize,
     pub check: usize,
     pub overrun: usize,
-}
-
-pub(crate) fn is_good(f: Fault) -> bool
-    ensures { result ≡ is_good f }
-{
-    match f {
-        Fault::None => true,
-        Fault::Aborted => false,
-        Fault::Short => false,
-        Fault::Control => false,
-        Fault::Check => false,
-        Fault::Overrun => false,
-    }
 }
 
 impl Drops {
@@ -56,18 +41,18 @@ impl Drops {
     }
 
     // One more, where there is a fault.
-    pub(crate) fn noted(self, f: Fault) -> Self
+    pub(crate) fn noted(self, f: Option<Fault>) -> Self
         requires { all_of self + 1 < 2 ^ 64 }
         ensures { result ≡ together self (one_drop f) }
     {
         let mut d = self;
         match f {
-            Fault::None => {}
-            Fault::Aborted => d.aborted += 1,
-            Fault::Short => d.short += 1,
-            Fault::Control => d.control += 1,
-            Fault::Check => d.check += 1,
-            Fault::Overrun => d.overrun += 1,
+            None => {}
+            Some(Fault::Aborted) => d.aborted += 1,
+            Some(Fault::Short) => d.short += 1,
+            Some(Fault::Control) => d.control += 1,
+            Some(Fault::Check) => d.check += 1,
+            Some(Fault::Overrun) => d.overrun += 1,
         }
         d
     }

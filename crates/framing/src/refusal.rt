@@ -2,7 +2,7 @@
 ghost use Rattle.std.specs.Prelude.{◌≡◌};
 ghost use Rattle.framing.specs.Refusal.{number_of};
 
-#[derive(Clone, Copy)]
+#[derive(Clone, Copy, PartialEq, Eq)]
 pub enum Refusal {
     // What is to be written, a unit of a frame or text, does not fit into the lent buffer.
     BufferFull,
@@ -12,18 +12,14 @@ pub enum Refusal {
     FrameShort,
 }
 
-#[derive(Clone, Copy)]
-pub enum Outcome {
-    Done,
-    Refused(Refusal),
-}
+impl From<Refusal> for u8 {
+    ghost from_gives = { λ r n. n ≡ number_of r };
 
-pub fn number(r: Refusal) -> u8
-    ensures { result ≡ number_of r }
-{
-    match r {
-        Refusal::BufferFull => 1,
-        Refusal::BufferShort => 3,
-        Refusal::FrameShort => 5,
+    fn from(r: Refusal) -> u8 {
+        match r {
+            Refusal::BufferFull => 1,
+            Refusal::BufferShort => 3,
+            Refusal::FrameShort => 5,
+        }
     }
 }

@@ -20,5 +20,5 @@ pub extern "C" fn ppp_crc16(seed: u16, src: &[u8]) -> u16
 pub extern "C" fn ppp_encode(buf: &mut [u8], asyncmap: u32, src: &[u8]) -> usize
     ensures { Lays asyncmap src.now buf.old result buf.new }
 {
-    encode(buf, asyncmap, src).count
+    encode(buf, asyncmap, src).unwrap_or(0)
 }

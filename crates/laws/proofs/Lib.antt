@@ -9,3 +9,5 @@ pub mod Quiet
 pub mod Same
 pub mod Stores
 pub mod Xor
+pub mod Passed
+pub mod Lent

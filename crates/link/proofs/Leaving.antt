@@ -8,12 +8,12 @@ use native.Mathlib.Omega.{arith}
 use borrow.Author.Tests.{leb-true}
 use lib.Dec.{ltb, leb}
 use lib.ListN.{length, drop, length-append, length-drop}
+use Rattle.std.specs.Prelude.{Result, Ok, Err}
 use Rattle.laws.proofs.Cases.{cond_all, cond_by}
 use Rattle.framing.specs.Reader.{is_complete, is_short, fetched, packet_of}
 use Rattle.framing.specs.declared.frame_reader.FrameReader.{FrameReader}
 use Rattle.phases.specs.Phases.{Turn, poll_of, turn_of}
-use Rattle.options.specs.declared.refusal.Outcome.{Outcome}
-use Rattle.options.specs.declared.refusal.Outcome.TheVariants.{Done, Refused}
+use Rattle.options.specs.declared.refusal.Refusal.{Refusal}
 use Rattle.link.specs.Frames.{frames}
 use Rattle.link.specs.Link.{link_of, held_by, Poll, by_outcome, answered_poll, is_ip, packet_poll, poll_link}
 use Rattle.link.specs.declared.pppos.PPPoS.{PPPoS}
@@ -26,9 +26,9 @@ module _ (P : PPPoS → Type 0) (l : PPPoS) (tx rx : List ℕ) (stays : P l) whe
   unfolding answered_poll
   answered-leaves r t old new = by_outcome_lem t.outcome
     where
-      by_outcome_lem : (o : Outcome) → Leaves (by_outcome o l r t tx rx)
-      by_outcome_lem Done = cond_all Leaves (leb (length (frames t.sent)) (length tx)) new stays
-      by_outcome_lem (Refused why) = old
+      by_outcome_lem : (o : Result Unit Refusal) → Leaves (by_outcome o l r t tx rx)
+      by_outcome_lem (Ok tt) = cond_all Leaves (leb (length (frames t.sent)) (length tx)) new stays
+      by_outcome_lem (Err why) = old
 
   -- as it was, with its frame fetched, with a packet taken that is not IPv4's, with a phase step taken
   pub poll-leaves : P (link_of (fetched l.frame_reader) l.ppp)
@@ -53,12 +53,12 @@ module _ (l : PPPoS) (tx rx : List ℕ) where
   unfolding answered_poll
   answered-long r t = by_outcome_lem t.outcome
     where
-      by_outcome_lem : (o : Outcome) → AsLong (by_outcome o l r t tx rx)
-      by_outcome_lem Done =
+      by_outcome_lem : (o : Result Unit Refusal) → AsLong (by_outcome o l r t tx rx)
+      by_outcome_lem (Ok tt) =
           cond_by AsLong (leb (length (frames t.sent)) (length tx))
           (λ e. omega (arith, length-append (frames t.sent) (drop (length (frames t.sent)) tx), length-drop (length (frames t.sent)) tx, leb-true (length (frames t.sent)) (length tx) e))
           (λ _. refl)
-      by_outcome_lem (Refused why) = refl
+      by_outcome_lem (Err why) = refl
 
   pub poll-long : AsLong (poll_link l tx rx)
   unfolding poll_link packet_poll

@@ -7,6 +7,7 @@ use Prim.Native.Nat.{ℕ}
 use native.Mathlib.Omega.{arith}
 use borrow.Author.Tests.{ne_eqb}
 use lib.Dec.{eqb}
+use Rattle.std.specs.Prelude.{Result, Ok, Err}
 use Rattle.framing.specs.declared.refusal.Refusal.TheVariants.{BufferFull, BufferShort, FrameShort}
 use Rattle.options.proofs.Numbers as below
 use Rattle.link.specs.Refusal.{number_of, values_of, is_shared}
@@ -14,7 +15,7 @@ use Rattle.link.specs.Link.{action_number, action_values}
 use Rattle.link.specs.declared.refusal.Refusal.{Refusal}
 use Rattle.link.specs.declared.refusal.Refusal.TheVariants.{Framing, Negotiation, FramesFull}
 use Rattle.link.specs.declared.pppos.PPPoSAction.{PPPoSAction}
-use Rattle.link.specs.declared.pppos.PPPoSAction.TheVariants.{Idle, Received, Transmit, Declined}
+use Rattle.link.specs.declared.pppos.PPPoSAction.TheVariants.{Idle, Received, Transmit}
 
 -- the cause that a number and its values stand for
 abbrev cause_of : ℕ → List ℕ → Refusal
@@ -39,19 +40,19 @@ pub causes_apart : (x y : Refusal) → number_of x ≡ number_of y → values_of
 causes_apart x y n v e = sym ((told x).back e) ∙ ap₂ cause_of n v ∙ (told y).back (sym (ap is_shared n) ∙ e)
 
 -- the action that a number and its values stand for
-abbrev handing : List ℕ → PPPoSAction
-handing [] = Idle
-handing (n ∷ []) = Transmit n
-handing (from ∷ to ∷ v) = Received from to
+abbrev handing : List ℕ → Result PPPoSAction Refusal
+handing [] = Ok Idle
+handing (n ∷ []) = Ok (Transmit n)
+handing (from ∷ to ∷ v) = Ok (Received from to)
 
-abbrev action_for : ℕ → List ℕ → PPPoSAction
-action_for n v = cond (eqb n 0) (handing v) (Declined (cause_of n v))
+abbrev action_for : ℕ → List ℕ → Result PPPoSAction Refusal
+action_for n v = cond (eqb n 0) (handing v) (Err (cause_of n v))
 
-action_back : (a : PPPoSAction) → is_shared (action_number a) ≡ false → action_for (action_number a) (action_values a) ≡ a
-action_back Idle e = refl
-action_back (Received from to) e = refl
-action_back (Transmit n) e = refl
-action_back (Declined r) e = rw ((told r).some, (told r).back e) refl
+action_back : (a : Result PPPoSAction Refusal) → is_shared (action_number a) ≡ false → action_for (action_number a) (action_values a) ≡ a
+action_back (Ok Idle) e = refl
+action_back (Ok (Received from to)) e = refl
+action_back (Ok (Transmit n)) e = refl
+action_back (Err r) e = rw ((told r).some, (told r).back e) refl
 
-pub actions_apart : (a b : PPPoSAction) → action_number a ≡ action_number b → action_values a ≡ action_values b → is_shared (action_number a) ≡ false → a ≡ b
+pub actions_apart : (a b : Result PPPoSAction Refusal) → action_number a ≡ action_number b → action_values a ≡ action_values b → is_shared (action_number a) ≡ false → a ≡ b
 actions_apart a b n v e = sym (action_back a e) ∙ ap₂ action_for n v ∙ action_back b (sym (ap is_shared n) ∙ e)

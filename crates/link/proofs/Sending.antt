@@ -1,18 +1,25 @@
 -- Frames one behind the other: what `encode` leaves in the rest of a buffer, and how long a call's frames are.
 -- Assumes nothing.
 use mathlib.Core.Path.{◌≡◌, refl, ap, ◌∙◌}
-use mathlib.Core.Bool.{true}
+use mathlib.Core.Bool.{true, ◌&&◌}
 use mathlib.Core.List.{List, [], ◌∷◌, ◌++◌, append_assoc, append-nil}
 use Prim.Native.Nat.{ℕ, ◌+◌, ◌*◌, ◌-◌, ◌^◌, ◌≤◌, ◌<◌}
 use native.Mathlib.Omega.{arith}
-use borrow.Author.Tests.{lt-ltb, le-leb}
+use borrow.Author.Tests.{lt-ltb, le-leb, eq-eqb, ne_eqb, eqb-true, eqb-false}
+use lib.Dec.{eqb}
 use borrow.Rule.Slice.PartMut.{put_mid, mid_of}
 use lib.ListN.{length, take, drop, get_or, length-append, length-drop}
 use lib.Seq.{sets, sets-eq, take_all, drop-drop, drop-length}
+use Rattle.std.specs.Prelude.{Result, Ok, Err}
+use Rattle.std.specs.List.{starts_with}
+use Rattle.std.specs.Result.{result_unwrap_or}
 use Rattle.laws.specs.Each.{Each}
+use Rattle.laws.proofs.Be.{be_pair}
+use Rattle.laws.proofs.Cases.{by_test}
 use Rattle.framing.specs.Rfc1662.{frame}
+use Rattle.framing.specs.Refusal.{count_of}
 use Rattle.framing.specs.Writer.{holds, Encodes, capped}
-use Rattle.framing.specs.declared.refusal.Outcome.{Outcome}
+use Rattle.framing.specs.declared.refusal.Refusal.{Refusal}
 use Rattle.framing.proofs.Unstuffing.{frame_narrow}
 use Rattle.options.specs.Wire.{max_packet, content_of}
 use Rattle.negotiation.specs.Replies.{max_replies, contents}
@@ -23,6 +30,7 @@ use Rattle.phases.specs.declared.ppp.Ppp.{Ppp}
 use Rattle.options.proofs.Fair as packet
 use Rattle.negotiation.proofs.Joining.{contents-next, contents_end}
 use Rattle.phases.proofs.Phasing.{poll_sends, turn_sends}
+use Rattle.link.specs.Link.{is_ip}
 use Rattle.link.specs.Frames.{every_byte, frames, max_frame, always_enough}
 
 -- ---- a frame in the rest of a buffer
@@ -36,16 +44,37 @@ back_is xs ys at h =
     let e : at + (length xs - at) ≡ length xs = omega arith in
     simp (drop-drop, e, drop-length, append-nil)
 
+-- `unwrap_or(0)` of an answer is its count
+pub unwrap_count : {E : Type 0} (r : Result ℕ E) → result_unwrap_or r 0 ≡ count_of r
+unwrap_count (Ok n) = refl
+unwrap_count (Err why) = refl
+
 -- where the rest has the room, the whole frame stands there and nothing else has changed
-pub rest_framed : {m : ℕ} {p q : List ℕ} {o : Outcome} {n : ℕ} (buf : List ℕ) (at : ℕ) → at + length (frame m p) ≤ length buf
-    → Encodes m p (mid_of at (length buf - at) buf) o n q
-    → (at + n ≡ at + length (frame m p)) × (put_mid at (length buf - at) buf q ≡ sets buf at (frame m p))
+pub rest_framed : {m : ℕ} {p q : List ℕ} {r : Result ℕ Refusal} (buf : List ℕ) (at : ℕ) → at + length (frame m p) ≤ length buf
+    → Encodes m p (mid_of at (length buf - at) buf) r q
+    → (at + count_of r ≡ at + length (frame m p)) × (put_mid at (length buf - at) buf q ≡ sets buf at (frame m p))
 rest_framed {m} {p} {q} buf at h e =
     let k = rw (rest_is buf at) at e in
     let t : holds m p (length (drop at buf)) ≡ true = le-leb (length (frame m p)) (length (drop at buf)) (rw length-drop (omega arith)) in (
       ap (λ (x : ℕ). at + x) (k.lays.count ∙ rw t refl),
       back_is buf q at (omega arith) ∙ rw (k.lays.bytes, t, drop-drop, ← append_assoc, sets-eq (frame m p) buf at h) refl,
     )
+
+-- ---- the protocol number of IPv4
+
+-- the high byte first
+pair_ip : (x y : ℕ) → eqb 0 x && (eqb 0x21 y && true) ≡ eqb (x * 256 + y) 0x21
+pair_ip x y =
+    by_test (eqb 0 x)
+    (λ a. by_test (eqb 0x21 y)
+    (λ b. rw (a, b, eq-eqb (x * 256 + y) 0x21 (omega (arith, eqb-true 0 x a, eqb-true 0x21 y b))) refl)
+    (λ b. rw (a, b, ne_eqb (x * 256 + y) 0x21 (λ e. eqb-false 0x21 y b (omega (arith, eqb-true 0 x a, e)))) refl))
+    (λ a. rw (a, ne_eqb (x * 256 + y) 0x21 (λ e. eqb-false 0 x a (omega (arith, e)))) refl)
+
+pub starts_ip : (l : List ℕ) → starts_with eqb l (0x00 ∷ 0x21 ∷ []) ≡ is_ip l
+starts_ip [] = refl
+starts_ip (x ∷ []) = by_test (eqb 0 x) (λ a. rw a refl) (λ a. rw a refl)
+starts_ip (x ∷ y ∷ l) = rw (le-leb 2 (length (x ∷ y ∷ l)) (omega arith), be_pair (x ∷ y ∷ l) (omega arith)) (pair_ip x y)
 
 -- ---- lengths
 
@@ -83,17 +112,17 @@ abbrev pub frames_from : Replies → ℕ → List ℕ
 frames_from rs i = frames (drop i (contents rs))
 
 module _ (rs : Replies) (i : ℕ) where
-  module _ (d : Packet) (h : i < rs.count) (k : i < length rs.packets) where
+  module _ (d : Packet) (h : i < length (take rs.count rs.packets)) where
     abbrev next : List ℕ
-    next = frame every_byte (content_of (get_or rs.packets i d))
+    next = frame every_byte (content_of (get_or (take rs.count rs.packets) i d))
 
     pub frames-next : frames_from rs i ≡ next ++ frames_from rs (i + 1)
     unfolding frames
-    frames-next = ap frames (contents-next rs i d h k)
+    frames-next = ap frames (contents-next rs i d h)
 
     pub length-next : length (frames_from rs i) ≡ length next + length (frames_from rs (i + 1))
     length-next = ap length frames-next ∙ length-append next (frames_from rs (i + 1))
 
-  pub frames_end : rs.count ≤ i → frames_from rs i ≡ []
+  pub frames_end : length (take rs.count rs.packets) ≤ i → frames_from rs i ≡ []
   unfolding frames
   frames_end h = ap frames (contents_end rs i h)

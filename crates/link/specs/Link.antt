@@ -1,29 +1,29 @@
 -- What the link's calls do (document 01; pppos/mod.rs): definitions built of framing's and negotiation's.
-use Rattle.std.specs.Prelude.{◌≡◌, Bool, cond, ◌&&◌, List, [], ◌∷◌, ◌++◌, ℕ, ◌+◌, ◌-◌, ltb, leb, eqb, length, set, take, drop}
+use Rattle.std.specs.Prelude.{◌≡◌, Bool, cond, ◌&&◌, List, [], ◌∷◌, ◌++◌, ℕ, ◌+◌, ◌-◌, ltb, leb, eqb, length, set, take, drop, Result, Ok, Err}
 use Rattle.std.specs.Borrow.{Bor}
+use Rattle.framing.specs.Rfc1662.{frame}
+use Rattle.framing.specs.Refusal.{count_of}
 use Rattle.framing.specs.Writer.{over, holds, Lays}
 use Rattle.framing.specs.Reader.{is_complete, is_short, Held, held, consumed, fetched, packet_of, fresh_reader}
 use Rattle.framing.specs.declared.frame_reader.FrameReader.{FrameReader}
 use Rattle.framing.specs.declared.refusal.Refusal.TheVariants as framing
-use Rattle.framing.specs.declared.refusal.Outcome as framed
+use Rattle.framing.specs.declared.refusal.Refusal as framed
 use Rattle.options.specs.Wire.{protocol_in}
 use Rattle.negotiation.specs.Replies.{contents}
 use Rattle.phases.specs.Phases.{Turn, poll_of, turn_of, open_of, new_of}
 use Rattle.phases.specs.declared.ppp.Ppp.{Ppp}
 use Rattle.phases.specs.declared.ppp.Turned.{Turned}
-use Rattle.options.specs.declared.refusal.Outcome as negotiation
+use Rattle.options.specs.declared.refusal.Refusal as negotiation
 use Rattle.options.specs.Refusal as refusals
-use Rattle.link.specs.Refusal.{number_of, values_of, outcome_number}
+use Rattle.link.specs.Refusal.{values_of, outcome_number}
 use Rattle.link.specs.Frames.{frames}
 use Rattle.link.specs.declared.refusal.Refusal.{Refusal}
 use Rattle.link.specs.declared.refusal.Refusal.TheVariants.{Framing, Negotiation, FramesFull}
-use Rattle.link.specs.declared.refusal.Outcome.{Outcome}
-use Rattle.link.specs.declared.refusal.Outcome.TheVariants.{Done, Refused}
 use Rattle.link.specs.declared.choices.Choices.{Choices}
 use Rattle.link.specs.declared.pppos.PPPoS.{PPPoS}
 use Rattle.link.specs.declared.pppos.PPPoSAction.{PPPoSAction}
 use Rattle.link.specs.declared.pppos.Polled.{Polled}
-use Rattle.link.specs.declared.pppos.PPPoSAction.TheVariants.{Idle, Received, Transmit, Declined}
+use Rattle.link.specs.declared.pppos.PPPoSAction.TheVariants.{Idle, Received, Transmit}
 
 -- ---- the record
 
@@ -34,14 +34,14 @@ abbrev pub held_by : PPPoS → List ℕ → Held
 held_by l rx = held l.frame_reader rx
 
 -- negotiation's outcome, as the link gives it
-abbrev pub outcome_of : negotiation.Outcome → Outcome
-outcome_of negotiation.TheVariants.Done = Done
-outcome_of (negotiation.TheVariants.Refused why) = Refused (Negotiation why)
+abbrev pub outcome_of : Result Unit negotiation.Refusal → Result Unit Refusal
+outcome_of (Ok x) = Ok x
+outcome_of (Err why) = Err (Negotiation why)
 
--- framing's outcome, as the link gives it
-abbrev pub framing_outcome : framed.Outcome → Outcome
-framing_outcome framed.TheVariants.Done = Done
-framing_outcome (framed.TheVariants.Refused why) = Refused (Framing why)
+-- framing's answer, as the link gives it
+abbrev pub framing_outcome : {A : Type 0} → Result A framed.Refusal → Result A Refusal
+framing_outcome (Ok x) = Ok x
+framing_outcome (Err why) = Err (Framing why)
 
 -- ---- new and open
 
@@ -53,25 +53,25 @@ abbrev pub open_link : PPPoS → PPPoS
 open_link l = link_of l.frame_reader (open_of l.ppp).ppp
 
 -- a call that changes the link: its refusal number, its outcome and the link
-pub record Changes (t : Turn) (r : FrameReader) (o : Outcome) (l : PPPoS) : Type 0 where
+pub record Changes (t : Turn) (r : FrameReader) (o : Result Unit Refusal) (l : PPPoS) : Type 0 where
   pub number : outcome_number o ≡ refusals.outcome_number t.outcome
   pub outcome : o ≡ outcome_of t.outcome
   pub link : l ≡ link_of r t.ppp
 
 -- a link made with these choices
-abbrev pub Makes : List ℕ → List ℕ → Choices → Outcome → PPPoS → Type 0
+abbrev pub Makes : List ℕ → List ℕ → Choices → Result Unit Refusal → PPPoS → Type 0
 Makes name password c o l = Changes (new_of name password) (fresh_reader c.reading) o l
 
-abbrev pub Opens : PPPoS → Outcome → PPPoS → Type 0
+abbrev pub Opens : PPPoS → Result Unit Refusal → PPPoS → Type 0
 Opens l o l' = Changes (open_of l.ppp) l.frame_reader o l'
 
 -- ---- consume
 
--- a call that is handed bs: its refusal number, its outcome, its count, the link and the receive buffer
-pub record Consumes (l : PPPoS) (rx bs : List ℕ) (o : Outcome) (n : ℕ) (l' : PPPoS) (rx' : List ℕ) : Type 0 where
-  pub number : outcome_number o ≡ cond (is_short (held_by l rx)) 3 0
-  pub outcome : o ≡ cond (is_short (held_by l rx)) (Refused (Framing framing.BufferShort)) Done
-  pub count : n ≡ length bs - length (consumed (held_by l rx) bs).left
+-- a call that is handed bs: its refusal number, its answer, its count, the link and the receive buffer
+pub record Consumes (l : PPPoS) (rx bs : List ℕ) (t : Result ℕ Refusal) (l' : PPPoS) (rx' : List ℕ) : Type 0 where
+  pub number : outcome_number t ≡ cond (is_short (held_by l rx)) 3 0
+  pub outcome : t ≡ cond (is_short (held_by l rx)) (Err (Framing framing.BufferShort)) (Ok (length bs - length (consumed (held_by l rx) bs).left))
+  pub count : count_of t ≡ length bs - length (consumed (held_by l rx) bs).left
   pub link : l' ≡ link_of (consumed (held_by l rx) bs).now.reader l.ppp
   pub bytes : rx' ≡ (consumed (held_by l rx) bs).now.buf
 
@@ -79,14 +79,14 @@ pub record Consumes (l : PPPoS) (rx bs : List ℕ) (o : Outcome) (n : ℕ) (l' :
 
 -- the action, the link, and both buffers
 pub record Poll : Type 0 where
-  pub action : PPPoSAction
+  pub action : Result PPPoSAction Refusal
   pub link : PPPoS
   pub tx : List ℕ
   pub rx : List ℕ
 
 -- a refusal that leaves the link l and both buffers
 abbrev pub declined : Refusal → PPPoS → List ℕ → List ℕ → Poll
-declined why l tx rx = record { action = Declined why; link = l; tx = tx; rx = rx }
+declined why l tx rx = record { action = Err why; link = l; tx = tx; rx = rx }
 
 abbrev pub sent : ℕ → PPPoSAction
 sent n = cond (eqb n 0) Idle (Transmit n)
@@ -99,13 +99,13 @@ echoed_in e rx = cond e (set rx 3 10) rx
 abbrev pub written : PPPoS → FrameReader → Turn → List ℕ → List ℕ → Poll
 written l r t tx rx =
     cond (leb (length (frames t.sent)) (length tx))
-    (record { action = sent (length (frames t.sent)); link = link_of r t.ppp; tx = over (frames t.sent) tx; rx = echoed_in t.echoed rx })
+    (record { action = Ok (sent (length (frames t.sent))); link = link_of r t.ppp; tx = over (frames t.sent) tx; rx = echoed_in t.echoed rx })
     (declined FramesFull l tx rx)
 
 -- what negotiation's turn t comes to, with the reader r: a refused packet is dropped
-abbrev pub by_outcome : negotiation.Outcome → PPPoS → FrameReader → Turn → List ℕ → List ℕ → Poll
-by_outcome negotiation.TheVariants.Done l r t tx rx = written l r t tx rx
-by_outcome (negotiation.TheVariants.Refused why) l r t tx rx = declined (Negotiation why) (link_of r l.ppp) tx rx
+abbrev pub by_outcome : Result Unit negotiation.Refusal → PPPoS → FrameReader → Turn → List ℕ → List ℕ → Poll
+by_outcome (Ok tt) l r t tx rx = written l r t tx rx
+by_outcome (Err why) l r t tx rx = declined (Negotiation why) (link_of r l.ppp) tx rx
 
 unfoldable pub answered_poll : PPPoS → FrameReader → Turn → List ℕ → List ℕ → Poll
 answered_poll l r t tx rx = by_outcome t.outcome l r t tx rx
@@ -125,7 +125,7 @@ is_ip pkt = leb 2 (length pkt) && eqb (protocol_in pkt) 0x0021
 unfoldable pub packet_poll : PPPoS → FrameReader → ℕ → List ℕ → List ℕ → List ℕ → Poll
 packet_poll l r to tx rx pkt =
     cond (is_ip pkt)
-    (record { action = Received 3 to; link = link_of r l.ppp; tx = tx; rx = rx })
+    (record { action = Ok (Received 3 to); link = link_of r l.ppp; tx = tx; rx = rx })
     (answered_poll l r (turn_of l.ppp pkt) tx rx)
 
 unfoldable pub poll_link : PPPoS → List ℕ → List ℕ → Poll
@@ -138,21 +138,18 @@ poll_link l tx rx =
     (packet_poll l (fetched l.frame_reader) (l.frame_reader.len - 2) tx rx (packet_of (held_by l rx))))
     (answered_poll l l.frame_reader (poll_of l.ppp) tx rx))
 
-abbrev pub action_number : PPPoSAction → ℕ
-action_number Idle = 0
-action_number (Received from to) = 0
-action_number (Transmit n) = 0
-action_number (Declined r) = number_of r
+abbrev pub action_number : Result PPPoSAction Refusal → ℕ
+action_number = outcome_number
 
 -- the ends of a range, how many bytes are to be sent, or what a refusal tells beside its number
-abbrev pub action_values : PPPoSAction → List ℕ
-action_values Idle = []
-action_values (Received from to) = from ∷ to ∷ []
-action_values (Transmit n) = n ∷ []
-action_values (Declined r) = values_of r
+abbrev pub action_values : Result PPPoSAction Refusal → List ℕ
+action_values (Ok Idle) = []
+action_values (Ok (Received from to)) = from ∷ to ∷ []
+action_values (Ok (Transmit n)) = n ∷ []
+action_values (Err r) = values_of r
 
 -- a poll's refusal number and values, its action, the link and both buffers
-pub record Polls (p : Poll) (a : PPPoSAction) (l : PPPoS) (tx rx : List ℕ) : Type 0 where
+pub record Polls (p : Poll) (a : Result PPPoSAction Refusal) (l : PPPoS) (tx rx : List ℕ) : Type 0 where
   pub number : action_number a ≡ action_number p.action
   pub values : action_values a ≡ action_values p.action
   pub action : a ≡ p.action
@@ -161,11 +158,11 @@ pub record Polls (p : Poll) (a : PPPoSAction) (l : PPPoS) (tx rx : List ℕ) : T
   pub receive : rx ≡ p.rx
 
 -- how many bytes of the transmit buffer are to be sent
-abbrev pub transmitted : PPPoSAction → ℕ
-transmitted Idle = 0
-transmitted (Received from to) = 0
-transmitted (Transmit n) = n
-transmitted (Declined r) = 0
+abbrev pub transmitted : Result PPPoSAction Refusal → ℕ
+transmitted (Ok Idle) = 0
+transmitted (Ok (Received from to)) = 0
+transmitted (Ok (Transmit n)) = n
+transmitted (Err r) = 0
 
 -- ---- send
 
@@ -176,11 +173,11 @@ ip_frame pkt = (0x00 ∷ 0x21 ∷ []) ++ pkt
 abbrev pub remote_map : PPPoS → ℕ
 remote_map l = l.ppp.lcp.proto.asyncmap_remote
 
--- a send's refusal number, its outcome, its count and the transmit buffer
-pub record Sends (l : PPPoS) (pkt tx : List ℕ) (o : Outcome) (n : ℕ) (tx' : List ℕ) : Type 0 where
-  pub number : outcome_number o ≡ cond (holds (remote_map l) (ip_frame pkt) (length tx)) 0 1
-  pub outcome : o ≡ cond (holds (remote_map l) (ip_frame pkt) (length tx)) Done (Refused (Framing framing.BufferFull))
-  pub lays : Lays (remote_map l) (ip_frame pkt) tx n tx'
+-- a send's refusal number, its answer, its count and the transmit buffer
+pub record Sends (l : PPPoS) (pkt tx : List ℕ) (r : Result ℕ Refusal) (tx' : List ℕ) : Type 0 where
+  pub number : outcome_number r ≡ cond (holds (remote_map l) (ip_frame pkt) (length tx)) 0 1
+  pub outcome : r ≡ cond (holds (remote_map l) (ip_frame pkt) (length tx)) (Ok (length (frame (remote_map l) (ip_frame pkt)))) (Err (Framing framing.BufferFull))
+  pub lays : Lays (remote_map l) (ip_frame pkt) tx (count_of r) tx'
 
 -- ---- the IP packet
 

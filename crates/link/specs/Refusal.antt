@@ -1,11 +1,9 @@
 -- The refusal numbers of documents 01 and 02, of all refusals that the link gives.
-use Rattle.std.specs.Prelude.{Bool, ◌||◌, List, [], ℕ, eqb}
+use Rattle.std.specs.Prelude.{Bool, ◌||◌, List, [], ℕ, eqb, Result, Ok, Err}
 use Rattle.framing.specs.Refusal as framing
 use Rattle.options.specs.Refusal as negotiation
 use Rattle.link.specs.declared.refusal.Refusal.{Refusal}
 use Rattle.link.specs.declared.refusal.Refusal.TheVariants.{Framing, Negotiation, FramesFull}
-use Rattle.link.specs.declared.refusal.Outcome.{Outcome}
-use Rattle.link.specs.declared.refusal.Outcome.TheVariants.{Done, Refused}
 
 abbrev pub number_of : Refusal → ℕ
 number_of (Framing r) = framing.number_of r
@@ -23,6 +21,6 @@ abbrev pub is_shared : ℕ → Bool
 is_shared n = eqb n 1 || eqb n 5
 
 -- 0 where nothing was refused
-abbrev pub outcome_number : Outcome → ℕ
-outcome_number Done = 0
-outcome_number (Refused r) = number_of r
+abbrev pub outcome_number : {A : Type 0} → Result A Refusal → ℕ
+outcome_number (Ok x) = 0
+outcome_number (Err r) = number_of r

@@ -4,7 +4,7 @@ ghost use Rattle.link.specs.Choices.{plain_in};
 
 use framing::frame_reader::Reading;
 
-#[derive(Clone, Copy)]
+#[derive(Clone, Copy, PartialEq, Eq)]
 pub struct Choices {
     pub reading: Reading,
 }

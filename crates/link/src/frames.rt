@@ -23,8 +23,7 @@ fn put_frame(tx: &mut [u8], at: usize, src: &[u8]) -> usize
     requires { at + length (frame 0xFFFFFFFF src.now) ≤ length tx.old }
     ensures { (result ≡ at + length (frame 0xFFFFFFFF src.now)) × (tx.new ≡ sets tx.old at (frame 0xFFFFFFFF src.now)) }
 {
-    let e = encode(&mut tx[at..], EVERY_BYTE, src);
-    at + e.count
+    at + encode(&mut tx[at..], EVERY_BYTE, src).unwrap_or(0)
 }
 
 // How many bytes the packet's frame takes.
@@ -32,9 +31,7 @@ fn reply_len(p: Packet) -> usize
     requires { p.len ≤ max_packet }
     ensures { (result ≡ length (frame 0xFFFFFFFF (content_of p))) × (result ≤ max_frame) }
 {
-    let n = p.len;
-    let bytes = p.bytes;
-    frame_len(EVERY_BYTE, &bytes[..n])
+    frame_len(EVERY_BYTE, &p.bytes[..p.len])
 }
 
 // The packet's frame behind the first `at` bytes of `tx`, which has the room.
@@ -42,24 +39,19 @@ fn put_reply(tx: &mut [u8], at: usize, p: Packet) -> usize
     requires { (p.len ≤ max_packet) × (at + length (frame 0xFFFFFFFF (content_of p)) ≤ length tx.old) }
     ensures { (result ≡ at + length (frame 0xFFFFFFFF (content_of p))) × (tx.new ≡ sets tx.old at (frame 0xFFFFFFFF (content_of p))) }
 {
-    let n = p.len;
-    let bytes = p.bytes;
-    put_frame(tx, at, &bytes[..n])
+    put_frame(tx, at, &p.bytes[..p.len])
 }
+
+// `Short` is asked below and no invariant of Replies: docs/PROMISES.md has `Replies::join` for every record.
 
 // How many bytes the frames of all replies take.
 fn replies_len(rs: Replies) -> usize
     requires { Short rs }
     ensures { result ≡ length (frames (contents rs)) }
 {
-    let count = rs.count;
-    let ps = rs.packets;
-    let mut n: usize = 0;
-    let mut k = 0;
-    while k < count {
-        let p = ps[k];
-        n += reply_len(p);
-        k += 1;
+    let mut n = 0;
+    for p in &rs.packets[..rs.count] {
+        n += reply_len(*p);
     }
     n
 }
@@ -69,10 +61,7 @@ pub(crate) fn fits(room: usize, rs: Replies) -> bool
     requires { Short rs }
     ensures { result ≡ leb (length (frames (contents rs))) room }
 {
-    if ALWAYS_ENOUGH <= room {
-        return true;
-    }
-    replies_len(rs) <= room
+    ALWAYS_ENOUGH <= room || replies_len(rs) <= room
 }
 
 // The frames of all replies from the front of `tx`, which has the room.
@@ -80,14 +69,9 @@ pub(crate) fn put_replies(tx: &mut [u8], rs: Replies) -> usize
     requires { Short rs × (length (frames (contents rs)) ≤ length tx.old) }
     ensures { (result ≡ length (frames (contents rs))) × (tx.new ≡ sets tx.old 0 (frames (contents rs))) }
 {
-    let count = rs.count;
-    let ps = rs.packets;
     let mut at = 0;
-    let mut k = 0;
-    while k < count {
-        let p = ps[k];
-        at = put_reply(tx, at, p);
-        k += 1;
+    for p in &rs.packets[..rs.count] {
+        at = put_reply(tx, at, *p);
     }
     at
 }

@@ -2,7 +2,7 @@
 ghost use Rattle.std.specs.Prelude.{◌≡◌};
 ghost use Rattle.link.specs.Refusal.{number_of};
 
-#[derive(Clone, Copy)]
+#[derive(Clone, Copy, PartialEq, Eq)]
 pub enum Refusal {
     Framing(framing::refusal::Refusal),
     Negotiation(options::refusal::Refusal),
@@ -10,18 +10,14 @@ pub enum Refusal {
     FramesFull,
 }
 
-#[derive(Clone, Copy)]
-pub enum Outcome {
-    Done,
-    Refused(Refusal),
-}
+impl From<Refusal> for u8 {
+    ghost from_gives = { λ r n. n ≡ number_of r };
 
-pub fn number(r: Refusal) -> u8
-    ensures { result ≡ number_of r }
-{
-    match r {
-        Refusal::Framing(f) => framing::refusal::number(f),
-        Refusal::Negotiation(n) => options::refusal::number(n),
-        Refusal::FramesFull => 1,
+    fn from(r: Refusal) -> Self {
+        match r {
+            Refusal::Framing(f) => u8::from(f),
+            Refusal::Negotiation(n) => u8::from(n),
+            Refusal::FramesFull => 1,
+        }
     }
 }

@@ -7,6 +7,7 @@ use Prim.Native.Nat.{ℕ, ◌≤◌}
 use borrow.Author.Tests.{le-ltb}
 use lib.ListN.{length}
 use lib.Seq.{take-append_seam}
+use Rattle.std.specs.Prelude.{Result, Ok}
 use Rattle.laws.proofs.Cases.{by_test}
 use Rattle.framing.specs.Reader.{Held, held, step, full, fetched, packet_of}
 use Rattle.framing.specs.Heard.{fetched_in}
@@ -14,11 +15,10 @@ use Rattle.framing.specs.declared.frame_reader.FrameReader.{FrameReader}
 use Rattle.phases.specs.Phases.{Turn, poll_of, turn_of}
 use Rattle.phases.specs.Sound.{Calm}
 use Rattle.phases.specs.declared.ppp.Ppp.{Ppp}
-use Rattle.options.specs.declared.refusal.Outcome.TheVariants as negotiation
 use Rattle.link.specs.Refusal.{outcome_number}
 use Rattle.link.specs.Frames.{frames, always_enough}
 use Rattle.link.specs.Link.{link_of, held_by, is_ip, packet_poll, poll_link}
-use Rattle.link.specs.declared.refusal.Outcome.{Outcome}
+use Rattle.link.specs.declared.refusal.Refusal.{Refusal}
 use Rattle.link.specs.declared.pppos.PPPoS.{PPPoS}
 use Rattle.link.proofs.Hearing as hearing
 use Rattle.link.proofs.Hearing.{sent_count, ip_turn}
@@ -62,7 +62,7 @@ pub record Takes (e : End) : Type 0 where
   pub within : e.link.frame_reader.len ≤ length e.rx
   pub long : 3 ≤ e.link.frame_reader.len
   pub calm : Calm e.link.ppp
-  pub done : (turn e).outcome ≡ negotiation.Done
+  pub done : (turn e).outcome ≡ (Ok tt)
   pub plain : (turn e).echoed ≡ false
 
 -- the byte b may be read
@@ -90,16 +90,16 @@ module _ (e : End) (b : ℕ) where
 -- ---- a poll
 
 -- the end e after a call with outcome o that consumed n bytes, and a poll that wrote w
-abbrev pub fine : End → Outcome → ℕ → List ℕ → Answer
+abbrev pub fine : End → Result Unit Refusal → ℕ → List ℕ → Answer
 fine e o n w = record { now = e; used = n; written = w; first = outcome_number o; polled = 0 }
 
 -- all frames are written from the front of the transmit buffer
-pub behind-turned : (l : PPPoS) (tx rx : List ℕ) (h : l.frame_reader.len ≤ length rx) (room : always_enough ≤ length tx) (o : Outcome) (n : ℕ) (r : FrameReader) (t : Turn) → t.echoed ≡ false
+pub behind-turned : (l : PPPoS) (tx rx : List ℕ) (h : l.frame_reader.len ≤ length rx) (room : always_enough ≤ length tx) (o : Result Unit Refusal) (n : ℕ) (r : FrameReader) (t : Turn) → t.echoed ≡ false
     → behind o n (hearing.written_poll l tx rx h room r t) ≡ fine (end_of (link_of r t.ppp) rx) o n (frames t.sent)
 behind-turned l tx rx h room o n r t e =
     rw (e, (sent_count (length (frames t.sent))).0, (sent_count (length (frames t.sent))).1, take-append_seam) refl
 
-module _ (e : End) (tx : List ℕ) (room : always_enough ≤ length tx) (o : Outcome) (n : ℕ) where
+module _ (e : End) (tx : List ℕ) (room : always_enough ≤ length tx) (o : Result Unit Refusal) (n : ℕ) where
   -- where nothing waits a poll leaves all as it is
   pub rests : Rest e → behind o n (poll_link e.link tx e.rx) ≡ fine e o n []
   unfolding frames

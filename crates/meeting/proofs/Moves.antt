@@ -11,6 +11,7 @@ use Rattle.options.specs.Wire.{pkt_of, packet_of}
 use Rattle.options.specs.Options.{walk_in, walk_from}
 use Rattle.options.specs.Proto.{own_nacked, nacks_of}
 use Rattle.options.specs.Reply.{listed_of, step_of, reply_of}
+use Rattle.negotiation.proofs.Lengths.{next_small}
 use Rattle.negotiation.specs.Messages.{next_id}
 use Rattle.negotiation.specs.Automaton.{requested, ack_of, req_with, req_of, nack_with, nack_of, term_ack_of, ignore_of, echo_of, act_of, handle_of, protocol_reject_of, opened_fsm}
 use Rattle.negotiation.specs.Auth.{closed_auth}
@@ -26,9 +27,6 @@ use Rattle.phases.specs.declared.ppp.Ppp.{Ppp}
 unfoldable opened : Unit {0}
 unfolding be_from be_bytes same pkt_of walk_in walk_from own_nacked nacks_of listed_of step_of reply_of requested ack_of req_with req_of nack_with nack_of term_ack_of ignore_of echo_of act_of handle_of opened_fsm protocol_reject_of closed_auth reject_of received_of establish_of auth_of network_of phase_of turn_of
 opened = tt
-
-id_byte : (i : ℕ) → next_id i < 256
-id_byte i = omega arith
 
 -- ---- packets are small
 
@@ -99,8 +97,8 @@ module _ (X Y : Self) (m n : Bool) where
   hears =
       record {
         calm = begun_calm X m n;
-        small = lcp_small 1 (next_id Y.lcp_id) Y.map Y.map_rej (omega arith) (id_byte Y.lcp_id);
-        few = lcp_small 2 (next_id Y.lcp_id) Y.map Y.map_rej (omega arith) (id_byte Y.lcp_id);
+        small = lcp_small 1 (next_id Y.lcp_id) Y.map Y.map_rej (omega arith) (next_small Y.lcp_id);
+        few = lcp_small 2 (next_id Y.lcp_id) Y.map Y.map_rej (omega arith) (next_small Y.lcp_id);
         is = lcp_req X m n (next_id Y.lcp_id) Y.map Y.map_rej;
       }
 
@@ -108,8 +106,8 @@ module _ (X Y : Self) (m n : Bool) where
   enters =
       record {
         calm = greeted_calm X Y m n;
-        small = lcp_small 2 (next_id X.lcp_id) X.map X.map_rej (omega arith) (id_byte X.lcp_id);
-        few = ip_small 1 (next_id X.ip_id) X.address X.dns1 X.dns2 X.address_rej m n (omega arith) (id_byte X.ip_id);
+        small = lcp_small 2 (next_id X.lcp_id) X.map X.map_rej (omega arith) (next_small X.lcp_id);
+        few = ip_small 1 (next_id X.ip_id) X.address X.dns1 X.dns2 X.address_rej m n (omega arith) (next_small X.ip_id);
         is = lcp_ack X Y m n (next_id X.lcp_id) X.map X.map_rej;
       }
 
@@ -193,13 +191,13 @@ ip_rej_acked X Y k p i false false h = refl
 
 -- every id on the wire is one that was stepped
 asks_small : (X : Self) (i : ℕ) (m n : Bool) → Small (ask (next_id i) X m n)
-asks_small X i m n = ip_small 1 (next_id i) X.address X.dns1 X.dns2 X.address_rej m n (omega arith) (id_byte i)
+asks_small X i m n = ip_small 1 (next_id i) X.address X.dns1 X.dns2 X.address_rej m n (omega arith) (next_small i)
 
 grants_small : (X : Self) (i : ℕ) → Small (grant (next_id i) X)
-grants_small X i = ip_small 2 (next_id i) X.address X.dns1 X.dns2 X.address_rej true true (omega arith) (id_byte i)
+grants_small X i = ip_small 2 (next_id i) X.address X.dns1 X.dns2 X.address_rej true true (omega arith) (next_small i)
 
 denies_small : (X : Self) (i : ℕ) (m n : Bool) → Small (deny (next_id i) X m n)
-denies_small X i m n = deny_small (next_id i) X.dns1 X.dns2 m n (id_byte i)
+denies_small X i m n = deny_small (next_id i) X.dns1 X.dns2 m n (next_small i)
 
 module _ (X Y : Self) (k i p : ℕ) (m n : Bool) where
   pub grants : Moves (net X Y Network k ReqSent p m n) (ask (next_id i) Y true true) (net X Y Network k AckSent (heard Y.address Y.address_rej p) m n) (grant (next_id i) Y ∷ [])

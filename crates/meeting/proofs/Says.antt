@@ -21,8 +21,9 @@ use Rattle.negotiation.specs.declared.auth.Auth.{Auth}
 use Rattle.phases.specs.declared.ppp.Phase.{Phase}
 use Rattle.phases.specs.declared.ppp.Phase.TheVariants.{Establish}
 use Rattle.phases.specs.declared.ppp.Ppp.{Ppp}
-use Rattle.phases.specs.declared.ppp.LcpFsm.{LcpFsm}
-use Rattle.phases.specs.declared.ppp.Ipv4cpFsm.{Ipv4cpFsm}
+use Rattle.options.specs.declared.lcp.Lcp.{Lcp}
+use Rattle.options.specs.declared.ipv4cp.Ipv4cp.{Ipv4cp}
+use Rattle.negotiation.specs.declared.option_fsm.OptionFsm.{OptionFsm}
 
 -- what an end brings to the meeting; whether it still sends its two name servers comes beside it
 pub record Self : Type 0 where
@@ -87,13 +88,13 @@ deny i X m n = packet_of 0x8021 4 i (offer 129 X.dns1 m ++ offer 131 X.dns2 n)
 
 -- ---- states
 
-abbrev pub lcp_at : Self → State → AuthType → ℕ → LcpFsm
+abbrev pub lcp_at : Self → State → AuthType → ℕ → OptionFsm Lcp
 lcp_at X s a r = record { id = next_id X.lcp_id; state = s; proto = record { auth = a; asyncmap_remote = r; asyncmap = X.map; asyncmap_rej = X.map_rej } }
 
 abbrev pub ip_option : ℕ → Bool → IpOption
 ip_option v rej = record { address = v; is_rejected = rej }
 
-abbrev pub ip_at : Self → ℕ → State → ℕ → Bool → Bool → Ipv4cpFsm
+abbrev pub ip_at : Self → ℕ → State → ℕ → Bool → Bool → OptionFsm Ipv4cp
 ip_at X i s p m n =
     record {
       id = i;
@@ -101,7 +102,7 @@ ip_at X i s p m n =
       proto = record { peer_address = p; address = ip_option X.address X.address_rej; dns_server_1 = ip_option X.dns1 m; dns_server_2 = ip_option X.dns2 n };
     }
 
-abbrev pub end : Self → Phase → LcpFsm → Ipv4cpFsm → Ppp
+abbrev pub end : Self → Phase → OptionFsm Lcp → OptionFsm Ipv4cp → Ppp
 end X f l i = record { phase = f; opening = false; lcp = l; auth = closed_auth X.authentication; ipv4cp = i }
 
 -- after `open` and one phase step

@@ -6,6 +6,7 @@ use mathlib.Core.List.{List, [], ◌∷◌}
 use Prim.Native.Nat.{ℕ, ◌≤◌}
 use native.Mathlib.Omega.{arith}
 use lib.ListN.{length}
+use Rattle.std.specs.Prelude.{Ok}
 use Rattle.framing.proofs.Arrives.{idle_empty}
 use Rattle.phases.specs.Phases.{Turn, open_of, poll_of}
 use Rattle.meeting.proofs.Says as moves
@@ -14,7 +15,6 @@ use Rattle.negotiation.specs.declared.states.State.TheVariants.{Closed}
 use Rattle.meeting.proofs.Moves.{begins}
 use Rattle.link.specs.Frames.{frames, always_enough}
 use Rattle.link.specs.Link.{link_of, outcome_of, open_link}
-use Rattle.link.specs.declared.refusal.Outcome.TheVariants.{Done}
 use Rattle.link.proofs.Hearing.{poll_waits}
 use Rattle.meeting.specs.Calls.{End, end_of, behind, opens}
 use Rattle.meeting.specs.Statement.{Ready}
@@ -36,7 +36,7 @@ waits h = record { idle = record { between = h.between; clear = h.no_escape; emp
 
 -- no refusal, nothing consumed, and one frame
 abbrev pub Opens : End → List ℕ → Type 0
-Opens x tx = opens x tx ≡ fine (joined (moves.begun (self x) (rejected1 x) (rejected2 x)) (hold x)) Done 0 (frames (hello (self x) ∷ []))
+Opens x tx = opens x tx ≡ fine (joined (moves.begun (self x) (rejected1 x) (rejected2 x)) (hold x)) (Ok tt) 0 (frames (hello (self x) ∷ []))
 
 pub opened : {x : End} → Ready x → x.link.ppp.lcp.state ≡ Closed → (tx : List ℕ) → always_enough ≤ length tx → Opens x tx
 unfolding opens

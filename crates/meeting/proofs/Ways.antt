@@ -7,14 +7,14 @@ use native.Mathlib.Omega.{arith}
 use borrow.Author.Tests.{le-ltb}
 use lib.ListN.{length, drop, length-append, length-drop}
 use lib.Seq.{drop-append-le}
+use Rattle.std.specs.Prelude.{Result, Ok}
 use Rattle.laws.proofs.Cases.{by_test}
 use Rattle.framing.specs.Reader.{step, full, Fed, fed}
 use Rattle.framing.proofs.Reader.{fed_nil, fed-step, fed_stop, fed_left, fed_left_le, consumed-fed}
 use Rattle.phases.specs.declared.ppp.Ppp.{Ppp}
 use Rattle.link.specs.Frames.{frames, always_enough}
 use Rattle.link.specs.Link.{link_of, poll_link}
-use Rattle.link.specs.declared.refusal.Outcome.{Outcome}
-use Rattle.link.specs.declared.refusal.Outcome.TheVariants.{Done}
+use Rattle.link.specs.declared.refusal.Refusal.{Refusal}
 use Rattle.meeting.specs.Calls.{End, Answer, behind, takes, Net, flip, passed_on, Exchange, start, at_a, at_b, one_unless_empty, steps}
 use Rattle.meeting.specs.Statement.{Framed, Unrefused}
 use Rattle.meeting.proofs.Bytes.{hold, feed, turn, Rest, stepped_quiet, says_quiet, stepped-full, says_full, rests, replies}
@@ -23,7 +23,7 @@ use Rattle.meeting.proofs.Diamond.{Ends, flipped, next, readable, resting}
 -- ---- one call
 
 -- the poll behind a consume that left f
-abbrev after : Fed → Ppp → List ℕ → Outcome → ℕ → Answer
+abbrev after : Fed → Ppp → List ℕ → Result Unit Refusal → ℕ → Answer
 after f p tx o n = behind o n (poll_link (link_of f.now.reader p) tx f.now.buf)
 
 -- the answer is on the way, with the bytes left before the others
@@ -32,7 +32,7 @@ record Served (Q : End → End → List ℕ → List ℕ → Type 0) (b : End) (
   polled : got.polled ≡ 0
   framed : Framed got.written
 
-module _ {Q : End → End → List ℕ → List ℕ → Type 0} (tx : List ℕ) (room : always_enough ≤ length tx) (o : Outcome) (n : ℕ) where
+module _ {Q : End → End → List ℕ → List ℕ → Type 0} (tx : List ℕ) (room : always_enough ≤ length tx) (o : Result Unit Refusal) (n : ℕ) where
   served : (c r : List ℕ) {a b : End} {v f g : List ℕ} → Ends Q a b (c ++ r) v f g
       → Served Q b r v f g (fed (hold a) c).left (after (fed (hold a) c) a.link.ppp tx o n)
   unfolding frames
@@ -68,7 +68,7 @@ passed tx c r room {a} {v} {f} e =
     let s = resting e in
     let left = (fed (hold a) c).left in
     let back : drop (length c - length left) (c ++ r) ≡ left ++ r = drop-append-le (length c - length left) c r (omega arith) ∙ ap (λ (l : List ℕ). l ++ r) (sym (fed_left (hold a) c)) in
-    let k = served tx room Done (length c - length left) c r e in
+    let k = served tx room (Ok tt) (length c - length left) c r e in
     rw (consumed-fed (hold a) c s.within, le-ltb (length a.rx) a.link.frame_reader.len s.within)
     (record {
       way = rw back k.way;

@@ -1,13 +1,12 @@
 -- The calls that demand 3 makes of an end, each with a poll behind it, and the two wires between two ends.
-use Rattle.std.specs.Prelude.{◌≡◌, cond, List, [], ◌∷◌, ◌++◌, ℕ, ◌+◌, ◌-◌, ◌≤◌, length, take, drop}
+use Rattle.std.specs.Prelude.{◌≡◌, cond, List, [], ◌∷◌, ◌++◌, ℕ, ◌+◌, ◌-◌, ◌≤◌, length, take, drop, Result, Ok, Err}
 use Rattle.framing.specs.Reader.{is_short, Fed, consumed}
 use Rattle.framing.specs.declared.refusal.Refusal.TheVariants as framing
 use Rattle.phases.specs.Phases.{open_of}
 use Rattle.link.specs.Refusal.{outcome_number}
 use Rattle.link.specs.Link.{link_of, held_by, outcome_of, open_link, Poll, poll_link, action_number, transmitted}
 use Rattle.link.specs.declared.refusal.Refusal.TheVariants.{Framing}
-use Rattle.link.specs.declared.refusal.Outcome.{Outcome}
-use Rattle.link.specs.declared.refusal.Outcome.TheVariants.{Done, Refused}
+use Rattle.link.specs.declared.refusal.Refusal.{Refusal}
 use Rattle.link.specs.declared.pppos.PPPoS.{PPPoS}
 
 -- ---- one end
@@ -29,7 +28,7 @@ pub record Answer : Type 0 where
   pub polled : ℕ
 
 -- a poll behind a call with this outcome, which consumed so many bytes; it wrote the first bytes of the transmit buffer
-abbrev pub behind : Outcome → ℕ → Poll → Answer
+abbrev pub behind : Result Unit Refusal → ℕ → Poll → Answer
 behind o n p =
     record {
       now = end_of p.link p.rx;
@@ -46,7 +45,7 @@ opens e tx = behind (outcome_of (open_of e.link.ppp).outcome) 0 (poll_link (open
 -- the poll behind a consume that left f of the bytes bs
 abbrev pub takes_by : Fed → End → List ℕ → List ℕ → Answer
 takes_by f e tx bs =
-    behind (cond (is_short (held_by e.link e.rx)) (Refused (Framing framing.BufferShort)) Done) (length bs - length f.left)
+    behind (cond (is_short (held_by e.link e.rx)) (Err (Framing framing.BufferShort)) (Ok tt)) (length bs - length f.left)
     (poll_link (link_of f.now.reader e.link.ppp) tx f.now.buf)
 
 -- consume bs, then poll

@@ -1,6 +1,6 @@
 -- Laws of replies: what the record holds, also once packets are added.
 -- Assumes nothing.
-use Rattle.std.proofs.Common.{◌≡◌, ℕ, suc, ◌+◌, ◌-◌, ◌<◌, ◌≤◌, List, [], ◌∷◌, ◌++◌, map, length, get_or, take, drop, replicate, refl, append-nil, add-one, arith, length-append, drop_of_length-le, length-take, drop-cons, get_or-take, take_at}
+use Rattle.std.proofs.Common.{◌≡◌, ℕ, suc, ◌+◌, ◌-◌, ◌<◌, ◌≤◌, List, [], ◌∷◌, ◌++◌, map, length, get_or, take, drop, replicate, refl, append-nil, add-one, arith, length-append, drop_of_length-le, length-take, drop-cons, take_at}
 use mathlib.Core.List.{map-append}
 use borrow.Author.Tests.{lt-leb}
 use lib.ListN.{length-map, get_or-map}
@@ -58,25 +58,22 @@ module _ (rs : Replies) (i : ℕ) where
   abbrev first : List Packet
   first = take rs.count rs.packets
 
-  module _ (d : Packet) (h : i < rs.count) (k : i < length rs.packets) where
-    within : i < length first
-    within = omega (arith, length-take rs.count rs.packets)
-
+  module _ (d : Packet) (h : i < length first) where
     -- the packet at an index, and those behind it
-    pub contents-next : drop i (contents rs) ≡ content_of (get_or rs.packets i d) ∷ drop (i + 1) (contents rs)
+    pub contents-next : drop i (contents rs) ≡ content_of (get_or first i d) ∷ drop (i + 1) (contents rs)
     unfolding contents
     contents-next =
-        rw (drop-cons (map content_of first) i (content_of d) (omega (arith, within, length-map first content_of)), get_or-map content_of first i d, get_or-take rs.count rs.packets i d h, add-one i) refl
+        rw (drop-cons (map content_of first) i (content_of d) (omega (arith, length-map first content_of)), get_or-map content_of first i d, add-one i) refl
 
-    pub short_at : Short rs → (get_or rs.packets i d).len ≤ max_packet
+    pub short_at : Short rs → (get_or first i d).len ≤ max_packet
     short_at s =
         let P : Packet → Type 0 = λ p. p.len ≤ max_packet in
-        rw (get_or-take rs.count rs.packets i d h) at (each_right P (take i first) (get_or first i d ∷ drop (suc i) first) (rw (split_at first i d within) at s.each)).0
+        (each_right P (take i first) (get_or first i d ∷ drop (suc i) first) (rw (split_at first i d h) at s.each)).0
 
-  pub contents_end : rs.count ≤ i → drop i (contents rs) ≡ []
+  pub contents_end : length first ≤ i → drop i (contents rs) ≡ []
   unfolding contents
   contents_end h =
-      let e : length (map content_of first) ≤ i = omega (arith, length-map first content_of, length-take rs.count rs.packets) in
+      let e : length (map content_of first) ≤ i = omega (arith, length-map first content_of) in
       drop_of_length-le (map content_of first) e
 
 -- a record within its bounds holds few packets, and short ones

@@ -1,6 +1,6 @@
--- How long each packet is.
+-- How long each packet is, and that an id is a byte.
 -- Assumes nothing.
-use Rattle.std.proofs.Common.{◌≡◌, ℕ, ◌+◌, ◌≤◌, List, [], length, arith, length-append, length-drop, length-take}
+use Rattle.std.proofs.Common.{◌≡◌, ℕ, ◌+◌, ◌<◌, ◌≤◌, List, [], length, arith, length-append, length-drop, length-take}
 use Rattle.laws.proofs.Be.{length_be}
 use Rattle.options.specs.declared.proto.Proto.{Proto}
 use Rattle.options.specs.declared.walk.Reply.{Reply}
@@ -8,7 +8,10 @@ use Rattle.options.specs.Wire.{content_of}
 use Rattle.options.specs.Proto.{protocol_of, own_of}
 use Rattle.options.specs.Reply.{Ready}
 use Rattle.options.proofs.Fair.{length_packet, own_short}
-use Rattle.negotiation.specs.Messages.{request_bytes, code_of, reply_bytes, term_ack_bytes, echo_bytes, reject_bytes}
+use Rattle.negotiation.specs.Messages.{next_id, request_bytes, code_of, reply_bytes, term_ack_bytes, echo_bytes, reject_bytes}
+
+pub next_small : (i : ℕ) → next_id i < 256
+next_small i = omega arith
 
 pub request_length : (p : Proto) (i : ℕ) → length (request_bytes p i) ≤ 24
 request_length p i = omega (arith, length_packet (protocol_of p) 1 i (own_of p), own_short p)

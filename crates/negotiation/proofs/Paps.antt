@@ -1,9 +1,13 @@
 -- Laws of PAP: the packet that carries the credentials, and a step by cases.
 -- Assumes nothing.
-use Rattle.std.proofs.Common.{◌≡◌, ℕ, ◌+◌, ◌≤◌, true, false, List, [], ◌++◌, length, refl, arith, length-append, eq-eqb, ne_eqb}
+use Rattle.std.proofs.Common.{◌≡◌, ℕ, ◌+◌, ◌≤◌, Bool, not, sym, ◌∙◌, true, false, List, [], ◌++◌, length, refl, arith, length-append, eq-eqb}
 use Rattle.negotiation.specs.declared.credentials.Credentials.{Credentials}
 use Rattle.negotiation.specs.declared.pap.Pap.{Pap}
-use Rattle.negotiation.specs.declared.pap.PapState.TheVariants.{Opened}
+use Rattle.negotiation.specs.declared.pap.PapState.{PapState}
+use Rattle.negotiation.specs.declared.pap.PapState.TheVariants.{Closed, ReqSent, Opened}
+use Rattle.negotiation.specs.contracts.pap.PapState.{the_type}
+use denote.Enum.Bare.{sameb}
+use borrow.Author.Tests.{not-true, not-false}
 use Rattle.negotiation.specs.Messages.{next_id}
 use Rattle.negotiation.specs.Pap.{credential_bytes, pap_bytes, is_pap_sent, pap_act_of, pap_reacts, pap_requested, with_pap_state}
 use Rattle.negotiation.specs.Credentials.{name_of, password_of}
@@ -37,6 +41,18 @@ pap_short c p =
 
 -- ---- a step, by cases
 
+-- the code's test
+waiting_same : (s : PapState) → sameb the_type s ReqSent ≡ is_pap_sent s
+waiting_same Closed = refl
+waiting_same ReqSent = refl
+waiting_same Opened = refl
+
+pub pap_waits : {t : Bool} (s : PapState) → t ≡ not (sameb the_type s ReqSent) → t ≡ false → is_pap_sent s ≡ true
+pap_waits s e f = not-false (is_pap_sent s) (rw (← waiting_same s) (sym e ∙ f))
+
+pub pap_idle : {t : Bool} (s : PapState) → t ≡ not (sameb the_type s ReqSent) → t ≡ true → is_pap_sent s ≡ false
+pap_idle s e f = not-true (is_pap_sent s) (rw (← waiting_same s) (sym e ∙ f))
+
 module _ (c : Credentials) (p : Pap) (code : ℕ) where
   pub act_idle : is_pap_sent p.state ≡ false → pap_act_of c p code ≡ pap_reacts p []
   unfolding pap_act_of
@@ -49,7 +65,3 @@ module _ (c : Credentials) (p : Pap) (code : ℕ) where
   pub act_nack : is_pap_sent p.state ≡ true → code ≡ 3 → pap_act_of c p code ≡ pap_requested c p
   unfolding pap_act_of
   act_nack e f = rw (e, f) refl
-
-  pub act_other : is_pap_sent p.state ≡ true → (code ≡ 2 → ⊥) → (code ≡ 3 → ⊥) → pap_act_of c p code ≡ pap_reacts p []
-  unfolding pap_act_of
-  act_other e f g = rw (e, ne_eqb code 2 f, ne_eqb code 3 g) refl

@@ -6,8 +6,7 @@ use Rattle.laws.proofs.Cases.{cond_by, cond_all}
 use Rattle.laws.proofs.Each.{each_append}
 use Rattle.options.specs.declared.walk.Reply.{Reply}
 use Rattle.options.specs.declared.proto.Nacked.{Nacked}
-use Rattle.options.specs.declared.refusal.Outcome.{Outcome}
-use Rattle.options.specs.declared.refusal.Outcome.TheVariants.{Done, Refused}
+use Rattle.std.specs.Prelude.{Result, Ok, Err}
 use Rattle.options.specs.declared.refusal.Refusal.{Refusal}
 use Rattle.options.specs.declared.refusal.Refusal.TheVariants.{ConfigureShort, EchoEmpty, ReplyLong}
 use Rattle.options.specs.Refusal.{is_done}
@@ -15,6 +14,7 @@ use Rattle.options.specs.Wire.{max_packet, length_field}
 use Rattle.options.specs.Options.{walk_of}
 use Rattle.options.specs.Proto.{protocol_of}
 use Rattle.options.proofs.Fair.{Short, Fair, fair_answer, nacks_kind}
+use Rattle.options.specs.declared.proto.Proto.{Proto}
 use Rattle.negotiation.specs.declared.option_fsm.OptionFsm.{OptionFsm}
 use Rattle.negotiation.specs.declared.states.State.TheVariants.{ReqSent}
 use Rattle.negotiation.specs.Messages.{max_rejected, next_id, request_bytes, reply_bytes, term_ack_bytes, echo_bytes, reject_bytes}
@@ -22,14 +22,14 @@ use Rattle.negotiation.specs.Automaton.{ack_resends, after_ack, after_term, is_c
 use Rattle.negotiation.proofs.Lengths.{request_length, reply_length, term_ack_length, echo_length, reject_length}
 
 -- of a step from f that leaves t
-pub record Proper (f : OptionFsm) (t : Reaction) : Type 0 where
+pub record Proper (f : OptionFsm Proto) (t : Reaction) : Type 0 where
   pub few : length t.sent ≤ 2
   pub short : Each Short t.sent
   pub kind : protocol_of t.fsm.proto ≡ protocol_of f.proto
   pub left : is_done t.outcome ≡ false → (t.fsm ≡ f) × (t.sent ≡ []) × (t.echoed ≡ false)
 
-module _ (f : OptionFsm) where
-  proper_done : (g : OptionFsm) (ps : List (List ℕ)) → protocol_of g.proto ≡ protocol_of f.proto → length ps ≤ 2 → Each Short ps → Proper f (reacts g ps)
+module _ (f : OptionFsm Proto) where
+  proper_done : (g : OptionFsm Proto) (ps : List (List ℕ)) → protocol_of g.proto ≡ protocol_of f.proto → length ps ≤ 2 → Each Short ps → Proper f (reacts g ps)
   proper_done g ps e h k = record { few = h; short = k; kind = e; left = λ x. absurd (true≢false x) }
 
   proper_refused : (why : Refusal) → Proper f (refusal_of f why)
@@ -40,19 +40,19 @@ module _ (f : OptionFsm) where
   proper_ignored = proper_done f [] refl (omega arith) tt
 
   -- one packet
-  proper_one : (g : OptionFsm) (l : List ℕ) → protocol_of g.proto ≡ protocol_of f.proto → Short l → Proper f (reacts g (l ∷ []))
+  proper_one : (g : OptionFsm Proto) (l : List ℕ) → protocol_of g.proto ≡ protocol_of f.proto → Short l → Proper f (reacts g (l ∷ []))
   proper_one g l e h = proper_done g (l ∷ []) e (omega arith) (h, tt)
 
-  proper_requested : (g : OptionFsm) (ps : List (List ℕ)) → protocol_of g.proto ≡ protocol_of f.proto → length ps ≤ 1 → Each Short ps → Proper f (requested g ps)
+  proper_requested : (g : OptionFsm Proto) (ps : List (List ℕ)) → protocol_of g.proto ≡ protocol_of f.proto → length ps ≤ 1 → Each Short ps → Proper f (requested g ps)
   unfolding requested
   proper_requested g ps e h k =
       let l = request_bytes g.proto (next_id g.id) in
       let s : length l ≤ max_packet = omega (arith, request_length g.proto (next_id g.id)) in
       proper_done _ (ps ++ l ∷ []) e (rw length-append (omega arith)) (each_append Short ps (l ∷ []) k (s, tt))
 
-  proper_unless : (o : Outcome) (t : Reaction) → Proper f t → Proper f (unless o f t)
-  proper_unless Done t h = h
-  proper_unless (Refused why) t h = proper_refused why
+  proper_unless : (o : Result Unit Refusal) (t : Reaction) → Proper f t → Proper f (unless o f t)
+  proper_unless (Ok x) t h = h
+  proper_unless (Err why) t h = proper_refused why
 
   proper_req : (i : ℕ) (r : Reply) → Fair (protocol_of f.proto) r → Proper f (req_with f i r)
   unfolding req_with
@@ -67,7 +67,7 @@ module _ (f : OptionFsm) where
   unfolding nack_with
   proper_nack n e = proper_unless n.outcome _ (proper_requested (after_nacked f n.proto) [] e (omega arith) tt)
 
-  proper_term : (g : OptionFsm) (i : ℕ) → protocol_of g.proto ≡ protocol_of f.proto → Proper f (term_ack_of g i)
+  proper_term : (g : OptionFsm Proto) (i : ℕ) → protocol_of g.proto ≡ protocol_of f.proto → Proper f (term_ack_of g i)
   unfolding term_ack_of
   proper_term g i e = proper_one g (term_ack_bytes g.proto i) e (omega (arith, term_ack_length g.proto i))
 

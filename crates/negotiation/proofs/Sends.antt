@@ -4,6 +4,7 @@ use Rattle.std.proofs.Common.{ℕ, suc, ◌+◌, ◌≤◌, ◌&&◌, eqb, ltb, 
 use Rattle.laws.specs.Each.{Each}
 use Rattle.laws.proofs.Cases.{cond_all}
 use Rattle.laws.proofs.Each.{each_append}
+use Rattle.options.specs.declared.proto.Proto.{Proto}
 use Rattle.negotiation.specs.declared.option_fsm.OptionFsm.{OptionFsm}
 use Rattle.negotiation.specs.declared.credentials.Credentials.{Credentials}
 use Rattle.negotiation.specs.declared.pap.Pap.{Pap}
@@ -29,7 +30,7 @@ sends_one n l h = record { few = omega arith; short = (h, tt) }
 pub sends_both : {m n : ℕ} (a b : List (List ℕ)) → Sends m a → Sends n b → Sends (m + n) (a ++ b)
 sends_both a b p q = record { few = rw length-append (omega arith); short = each_append Short a b p.short q.short }
 
-module _ (f : OptionFsm) where
+module _ (f : OptionFsm Proto) where
   pub handle-sends : (pkt : List ℕ) → Sends 2 (handle_of f pkt).sent
   handle-sends pkt = record { few = (proper_handle f pkt).few; short = (proper_handle f pkt).short }
 

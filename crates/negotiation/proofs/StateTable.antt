@@ -6,12 +6,12 @@ use lib.Seq.{get_or_at}
 use Rattle.laws.specs.Each.{Each}
 use Rattle.laws.proofs.Cases.{cond_by, cond_all}
 use Rattle.laws.proofs.Each.{each_append}
+use Rattle.options.specs.declared.proto.Proto.{Proto}
 use Rattle.negotiation.specs.declared.option_fsm.OptionFsm.{OptionFsm}
 use Rattle.options.specs.declared.walk.Reply.{Reply}
 use Rattle.options.specs.declared.proto.Verdict.{Verdict}
 use Rattle.options.specs.declared.proto.Verdict.TheVariants.{Ack, Nack, Rej}
-use Rattle.options.specs.declared.refusal.Outcome.{Outcome}
-use Rattle.options.specs.declared.refusal.Outcome.TheVariants.{Done, Refused}
+use Rattle.std.specs.Prelude.{Result, Ok, Err}
 use Rattle.options.specs.declared.refusal.Refusal.{Refusal}
 use Rattle.negotiation.specs.declared.states.State.{State}
 use Rattle.negotiation.specs.declared.states.State.TheVariants.{Closed, ReqSent, AckReceived, AckSent, Opened}
@@ -49,11 +49,11 @@ table_given : table ≡ rows_for (req_acked ∷ req_not_acked ∷ ack ∷ nack_o
 table_given = refl
 
 -- the reply to the options of a request
-abbrev pub answer : OptionFsm → List ℕ → Reply
+abbrev pub answer : OptionFsm Proto → List ℕ → Reply
 answer f p = reply_of (fresh_reply (start_of f.proto)) (walk_of (drop 6 p))
 
 -- what a packet of an event leaves
-pub data Leaves (f : OptionFsm) (i : ℕ) (p : List ℕ) : Event → Reaction → Type 0 where
+pub data Leaves (f : OptionFsm Proto) (i : ℕ) (p : List ℕ) : Event → Reaction → Type 0 where
   acked : (answer f p).verdict ≡ Ack → Leaves f i p req_acked (act_of f 1 i p)
   nacked : (answer f p).verdict ≡ Nack → Leaves f i p req_not_acked (act_of f 1 i p)
   rejected : (answer f p).verdict ≡ Rej → Leaves f i p req_not_acked (act_of f 1 i p)
@@ -63,7 +63,7 @@ pub data Leaves (f : OptionFsm) (i : ℕ) (p : List ℕ) : Event → Reaction �
   terminate_in : Leaves f i p terminate (act_of f 5 i p)
 
 -- the state that is left; where an own request follows it is the last packet, and the id steps
-pub record Moved (f : OptionFsm) (to : State) (asks : Bool) (t : Reaction) : Type 0 where
+pub record Moved (f : OptionFsm Proto) (to : State) (asks : Bool) (t : Reaction) : Type 0 where
   pub state : t.fsm.state ≡ to
   pub id : t.fsm.id ≡ cond asks (next_id f.id) f.id
   pub request : asks ≡ true → get_or t.sent (length t.sent - 1) [] ≡ request_bytes t.fsm.proto t.fsm.id
@@ -89,24 +89,24 @@ is_opened_lem AckReceived e = absurd (false≢true e)
 is_opened_lem AckSent e = absurd (false≢true e)
 is_opened_lem Opened e = refl
 
-module _ (f : OptionFsm) (i : ℕ) (p : List ℕ) where
+module _ (f : OptionFsm Proto) (i : ℕ) (p : List ℕ) where
   -- what is to hold of a step that is not refused
   abbrev Goes : State → Bool → Reaction → Type 0
-  Goes to asks t = t.outcome ≡ Done → Moved f to asks t
+  Goes to asks t = t.outcome ≡ Ok tt → Moved f to asks t
 
   refused_goes : {to : State} {asks : Bool} (why : Refusal) → Goes to asks (refusal_of f why)
   refused_goes why e = absurd (let z : ◌≡◌ {A = ℕ} 0 1 = cc in omega arith)
 
-  unless_goes : (to : State) (asks : Bool) (o : Outcome) (t : Reaction) → Goes to asks t → Goes to asks (unless o f t)
-  unless_goes to asks Done t h = h
-  unless_goes to asks (Refused why) t h = refused_goes why
+  unless_goes : (to : State) (asks : Bool) (o : Result Unit Refusal) (t : Reaction) → Goes to asks t → Goes to asks (unless o f t)
+  unless_goes to asks (Ok x) t h = h
+  unless_goes to asks (Err why) t h = refused_goes why
 
-  requested_goes : (g : OptionFsm) (ps : List (List ℕ)) → g.id ≡ f.id → Goes g.state true (requested g ps)
+  requested_goes : (g : OptionFsm Proto) (ps : List (List ℕ)) → g.id ≡ f.id → Goes g.state true (requested g ps)
   unfolding requested
   requested_goes g ps e _ =
       record { state = refl; id = rw e refl; request = λ _. get_or_at ps (request_bytes g.proto (next_id g.id)) [] [] _ (rw length-append (omega arith)) }
 
-  reacts_goes : (g : OptionFsm) (ps : List (List ℕ)) → g.id ≡ f.id → Goes g.state false (reacts g ps)
+  reacts_goes : (g : OptionFsm Proto) (ps : List (List ℕ)) → g.id ≡ f.id → Goes g.state false (reacts g ps)
   reacts_goes g ps e _ = record { state = refl; id = e; request = λ x. absurd (false≢true x) }
 
   -- Closed answers by TerminateAck, the other states by t
@@ -161,7 +161,7 @@ module _ (f : OptionFsm) (i : ℕ) (p : List ℕ) where
 -- a packet of the row's event, in the state it starts from and not refused, does what the row says
 abbrev pub Holds : Transition → Type 0
 Holds r =
-    (f : OptionFsm) (i : ℕ) (p : List ℕ) (t : Reaction) → f.state ≡ r.from → Leaves f i p r.event t → t.outcome ≡ Done → Moved f r.to r.asks t
+    (f : OptionFsm Proto) (i : ℕ) (p : List ℕ) (t : Reaction) → f.state ≡ r.from → Leaves f i p r.event t → t.outcome ≡ Ok tt → Moved f r.to r.asks t
 
 row-holds : (e : Event) (s : State) → Holds (row e s (after_of e s) (asks_of e s))
 row-holds e s f i p t k l = rw (← k) (leaves_goes f i p e t l)

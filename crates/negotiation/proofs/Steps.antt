@@ -5,10 +5,11 @@ use mathlib.Core.Bool.{false≢true}
 use Rattle.laws.proofs.Cases.{by_test, cond_by, cond_all}
 use Rattle.options.specs.declared.proto.Verdict.{Verdict}
 use Rattle.options.specs.declared.proto.Verdict.TheVariants.{Ack, Nack, Rej}
-use Rattle.options.specs.declared.refusal.Outcome.{Outcome}
-use Rattle.options.specs.declared.refusal.Outcome.TheVariants.{Done, Refused}
+use Rattle.std.specs.Prelude.{Result, Ok, Err}
+use Rattle.options.specs.declared.refusal.Refusal.{Refusal}
 use Rattle.options.specs.Refusal.{is_done}
 use Rattle.options.specs.Wire.{max_packet, length_field}
+use Rattle.options.specs.declared.proto.Proto.{Proto}
 use Rattle.negotiation.specs.declared.option_fsm.OptionFsm.{OptionFsm}
 use Rattle.negotiation.specs.declared.states.State.{State}
 use Rattle.negotiation.specs.declared.states.State.TheVariants.{Closed, ReqSent, AckReceived, AckSent, Opened}
@@ -17,9 +18,9 @@ use Rattle.negotiation.specs.Automaton.{after_acked, after_not_acked, after_req,
 use Rattle.negotiation.proofs.Proper.{proper_handle}
 use Rattle.negotiation.proofs.StateTable.{answer, is_closed_lem, req_goes, ack_goes, nack_goes}
 
-done_is : (o : Outcome) → is_done o ≡ true → o ≡ Done
-done_is Done e = refl
-done_is (Refused why) e = absurd (false≢true e)
+done_is : (o : Result Unit Refusal) → is_done o ≡ true → o ≡ Ok tt
+done_is (Ok x) e = refl
+done_is (Err why) e = absurd (false≢true e)
 
 pub closed_shut : (s : State) → is_closed s ≡ true → is_opened s ≡ false
 closed_shut s e = ap is_opened (is_closed_lem s e)
@@ -45,13 +46,13 @@ req_near s Ack = after_near after_acked refl refl refl refl s
 req_near s Nack = after_near after_not_acked refl refl refl refl s
 req_near s Rej = after_near after_not_acked refl refl refl refl s
 
-module _ (f : OptionFsm) where
+module _ (f : OptionFsm Proto) where
   -- ---- a received packet
 
   abbrev NearStep : Reaction → Type 0
-  NearStep t = t.outcome ≡ Done → Near f.state t.fsm.state
+  NearStep t = t.outcome ≡ Ok tt → Near f.state t.fsm.state
 
-  moved_near : (t : Reaction) {to : State} → Near f.state to → (t.outcome ≡ Done → t.fsm.state ≡ to) → NearStep t
+  moved_near : (t : Reaction) {to : State} → Near f.state to → (t.outcome ≡ Ok tt → t.fsm.state ≡ to) → NearStep t
   moved_near t n m d = rw (m d) n
 
   stays : NearStep (ignore_of f)

@@ -1,14 +1,13 @@
 -- Authentication, as the phases see it: one set of credentials, and the protocols that may carry them.
-use Rattle.std.specs.Prelude.{ℕ, Bool, List}
+use Rattle.std.specs.Prelude.{ℕ, Bool, false, List, Result}
 use Rattle.negotiation.specs.Replies.{replies_of}
 use Rattle.negotiation.specs.Pap.{is_pap_closed, is_pap_sent, is_pap_opened, fresh_pap, with_pap_state, PapReaction, pap_handle_of, opened_pap}
-use Rattle.options.specs.declared.refusal.Outcome.{Outcome}
+use Rattle.options.specs.declared.refusal.Refusal.{Refusal}
 use Rattle.negotiation.specs.declared.credentials.Credentials.{Credentials}
 use Rattle.negotiation.specs.declared.pap.Pap.{Pap}
-use Rattle.negotiation.specs.declared.pap.PapHandled.{PapHandled}
 use Rattle.negotiation.specs.declared.pap.PapState.TheVariants as pap_state
 use Rattle.negotiation.specs.declared.auth.Auth.{Auth}
-use Rattle.negotiation.specs.declared.auth.AuthHandled.{AuthHandled}
+use Rattle.negotiation.specs.declared.replies.Handled.{Handled}
 
 abbrev pub auth_with : Credentials → Auth
 auth_with c = record { credentials = c; pap = fresh_pap }
@@ -32,20 +31,20 @@ is_auth_opened a = is_pap_opened a.pap.state
 -- ---- a step
 
 pub record AuthReaction : Type 0 where
-  pub outcome : Outcome
+  pub outcome : Result Unit Refusal
   pub auth : Auth
   pub sent : List (List ℕ)
 
-abbrev pub auth_handled : AuthReaction → AuthHandled
-auth_handled t = record { outcome = t.outcome; auth = t.auth; replies = replies_of t.sent }
+abbrev pub auth_handled : AuthReaction → Handled Auth
+auth_handled t = record { outcome = t.outcome; echoed = false; left = t.auth; replies = replies_of t.sent }
 
 -- by a step of PAP
 abbrev pub by_pap : Auth → PapReaction → AuthReaction
 by_pap a t = record { outcome = t.outcome; auth = auth_after a t.pap; sent = t.sent }
 
 -- as the code holds it
-abbrev pub pap_taken : Auth → PapHandled → AuthHandled
-pap_taken a h = record { outcome = h.outcome; auth = auth_after a h.pap; replies = h.replies }
+abbrev pub pap_taken : Auth → Handled Pap → Handled Auth
+pap_taken a h = record { outcome = h.outcome; echoed = h.echoed; left = auth_after a h.left; replies = h.replies }
 
 -- a received packet of protocol C023
 unfoldable pub auth_handle_of : Auth → List ℕ → AuthReaction

@@ -1,5 +1,6 @@
 pub mod Replies
 pub mod Messages
+pub mod Wrapping
 pub mod Automaton
 pub mod StateTable
 pub mod Credentials

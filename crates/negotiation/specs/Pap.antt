@@ -4,14 +4,14 @@ use Rattle.options.specs.Wire.{packet_of, length_field}
 use Rattle.negotiation.specs.Replies.{replies_of}
 use Rattle.negotiation.specs.Messages.{next_id}
 use Rattle.negotiation.specs.Credentials.{name_of, password_of}
+use Rattle.options.specs.declared.refusal.Refusal.{Refusal}
 use Rattle.options.specs.declared.refusal.Refusal.TheVariants.{PapPast}
-use Rattle.options.specs.declared.refusal.Outcome.{Outcome}
-use Rattle.options.specs.declared.refusal.Outcome.TheVariants.{Done, Refused}
+use Rattle.std.specs.Prelude.{Result, Ok, Err}
 use Rattle.negotiation.specs.declared.credentials.Credentials.{Credentials}
 use Rattle.negotiation.specs.declared.pap.PapState.{PapState}
 use Rattle.negotiation.specs.declared.pap.PapState.TheVariants.{Closed, ReqSent, Opened}
 use Rattle.negotiation.specs.declared.pap.Pap.{Pap}
-use Rattle.negotiation.specs.declared.pap.PapHandled.{PapHandled}
+use Rattle.negotiation.specs.declared.replies.Handled.{Handled}
 
 abbrev pub is_pap_closed : PapState → Bool
 is_pap_closed Closed = true
@@ -49,15 +49,15 @@ stepped_pap p = record { state = p.state; id = next_id p.id }
 -- ---- a step
 
 pub record PapReaction : Type 0 where
-  pub outcome : Outcome
+  pub outcome : Result Unit Refusal
   pub pap : Pap
   pub sent : List (List ℕ)
 
-abbrev pub pap_handled : PapReaction → PapHandled
-pap_handled t = record { outcome = t.outcome; pap = t.pap; replies = replies_of t.sent }
+abbrev pub pap_handled : PapReaction → Handled Pap
+pap_handled t = record { outcome = t.outcome; echoed = false; left = t.pap; replies = replies_of t.sent }
 
 abbrev pub pap_reacts : Pap → List (List ℕ) → PapReaction
-pap_reacts p ps = record { outcome = Done; pap = p; sent = ps }
+pap_reacts p ps = record { outcome = Ok tt; pap = p; sent = ps }
 
 unfoldable pub pap_requested : Credentials → Pap → PapReaction
 pap_requested c p = pap_reacts (stepped_pap p) (pap_bytes c p ∷ [])
@@ -77,7 +77,7 @@ pap_handle_of c p pkt =
     (cond (nat_lt (length pkt) (length_field pkt))
     (pap_reacts p [])
     (cond (nat_lt (length pkt) (length_field pkt + 2))
-    (record { outcome = Refused PapPast; pap = p; sent = [] })
+    (record { outcome = Err PapPast; pap = p; sent = [] })
     (pap_act_of c p (slice_index pkt 2))))
 
 -- whatever the state was

@@ -1,9 +1,10 @@
 -- The packets of a call as the code holds them: which record holds which packets.
-use Rattle.std.specs.Prelude.{ℕ, ◌+◌, ◌-◌, ◌≤◌, cond, ◌||◌, List, [], ◌++◌, map, length, take, replicate, ◌==◌, nat_le, slice_index_or, slice_set}
+use Rattle.std.specs.Prelude.{ℕ, false, Ok, ◌+◌, ◌-◌, ◌≤◌, cond, ◌||◌, List, [], ◌++◌, map, length, take, replicate, ◌==◌, nat_le, slice_index_or, slice_set}
 use Rattle.laws.specs.Each.{Each}
 use Rattle.options.specs.Wire.{max_packet, pkt_of, content_of}
 use Rattle.options.specs.declared.wire.Packet.{Packet}
 use Rattle.negotiation.specs.declared.replies.Replies.{Replies}
+use Rattle.negotiation.specs.declared.replies.Handled.{Handled}
 
 -- how many packets a call sends at most
 abbrev pub max_replies : ℕ
@@ -28,3 +29,7 @@ added r p = record { count = r.count + 1; packets = slice_set r.packets r.count 
 -- the first packet of b, if it has one, behind those of a; a full record stays
 abbrev pub joined : Replies → Replies → Replies
 joined a b = cond (b.count == 0 || nat_le max_replies a.count) a (added a (slice_index_or b.packets 0 (pkt_of [])))
+
+-- what is left of a step that sends these packets, and is not refused
+abbrev pub sends_in : {S : Type 0} → S → Replies → Handled S
+sends_in s rs = record { outcome = Ok tt; echoed = false; left = s; replies = rs }

@@ -4,21 +4,13 @@ ghost use Rattle.negotiation.specs.Credentials.{fresh_credentials};
 ghost use Rattle.negotiation.specs.Auth.{auth_with, auth_after, is_auth_closed, is_auth_opened, auth_handled, pap_taken, auth_handle_of, opened_auth, closed_auth};
 
 use crate::credentials::Credentials;
-use crate::pap::{Pap, PapHandled, is_pap_closed, is_pap_opened};
-use crate::replies::Replies;
-use options::refusal::Outcome;
+use crate::pap::{Pap, PapState};
+use crate::replies::Handled;
 
 #[derive(Clone, Copy)]
 pub struct Auth {
     pub credentials: Credentials,
     pub pap: Pap,
-}
-
-#[derive(Clone, Copy)]
-pub struct AuthHandled {
-    pub outcome: Outcome,
-    pub auth: Auth,
-    pub replies: Replies,
 }
 
 impl Auth {
@@ -34,64 +26,51 @@ impl Auth {
     pub fn closed(self) -> bool
         ensures { result ≡ is_auth_closed self }
     {
-        let p = self.pap;
-        let s = p.state;
-        is_pap_closed(s)
+        self.pap.state == PapState::Closed
     }
 
     pub fn opened(self) -> bool
         ensures { result ≡ is_auth_opened self }
     {
-        let p = self.pap;
-        let s = p.state;
-        is_pap_opened(s)
+        self.pap.state == PapState::Opened
     }
 
     // The credentials stay.
-    fn after(self, p: Pap) -> Self
-        ensures { result ≡ auth_after self p }
+    fn after(self, pap: Pap) -> Self
+        ensures { result ≡ auth_after self pap }
     {
-        let mut a = self;
-        a.pap = p;
-        a
+        Auth { pap, ..self }
     }
 
     // What a step of PAP comes to.
-    fn taken(self, h: PapHandled) -> AuthHandled
+    fn taken(self, h: Handled<Pap>) -> Handled<Self>
         ensures { result ≡ pap_taken self h }
     {
-        let o = h.outcome;
-        let q = h.pap;
-        let r = h.replies;
-        AuthHandled {
-            outcome: o,
-            auth: self.after(q),
-            replies: r,
+        Handled {
+            outcome: h.outcome,
+            echoed: h.echoed,
+            left: self.after(h.left),
+            replies: h.replies,
         }
     }
 
     // A received packet of protocol C023.
-    pub fn handle_pap(self, pkt: &[u8]) -> AuthHandled
+    pub fn handle_pap(self, pkt: &[u8]) -> Handled<Self>
         ensures { result ≡ auth_handled (auth_handle_of self pkt.now) }
     {
-        let c = self.credentials;
-        let p = self.pap;
-        self.taken(p.handle(c, pkt))
+        self.taken(self.pap.handle(self.credentials, pkt))
     }
 
     // Whatever the state was.
-    pub fn open(self) -> AuthHandled
+    pub fn open(self) -> Handled<Self>
         ensures { result ≡ auth_handled (opened_auth self) }
     {
-        let c = self.credentials;
-        let p = self.pap;
-        self.taken(p.open(c))
+        self.taken(self.pap.open(self.credentials))
     }
 
     pub fn close(self) -> Self
         ensures { result ≡ closed_auth self }
     {
-        let p = self.pap;
-        self.after(p.close())
+        self.after(self.pap.close())
     }
 }

@@ -6,6 +6,7 @@ ghost use Rattle.negotiation.specs.Credentials.{max_credentials, fits_credential
 // How many bytes the two may have together.
 const MAX_CREDENTIALS: usize = 120;
 
+// An array with two lengths, no slices or String, since the record is Copy and of fixed memory.
 #[derive(Clone, Copy)]
 pub struct Credentials {
     pub username_len: usize,
@@ -16,10 +17,7 @@ pub struct Credentials {
 pub fn is_within(n: usize, m: usize) -> bool
     ensures { result ≡ fits_credentials n m }
 {
-    if MAX_CREDENTIALS < n {
-        return false;
-    }
-    m <= MAX_CREDENTIALS - n
+    n <= MAX_CREDENTIALS && m <= MAX_CREDENTIALS - n
 }
 
 impl Credentials {
@@ -30,28 +28,24 @@ impl Credentials {
         if is_within(username.len(), password.len()) {
             return Credentials::with(username, password);
         }
-        Credentials::with(&username[..0], &password[..0])
+        Credentials::with(&[], &[])
     }
 
     fn with(username: &[u8], password: &[u8]) -> Self
         requires { length username.now + length password.now ≤ max_credentials }
         ensures { result ≡ credentials_with username.now password.now }
     {
-        let bytes = place(
-            place([0; MAX_CREDENTIALS], 0, username),
-            username.len(),
-            password,
-        );
+        let n = username.len();
         Credentials {
-            username_len: username.len(),
+            username_len: n,
             password_len: password.len(),
-            bytes,
+            bytes: place(place([0; MAX_CREDENTIALS], 0, username), n, password),
         }
     }
 
     // A length, or 0 where the two do not fit.
-    fn counted(self, n: usize) -> usize
-        ensures { result ≡ counted_len self n }
+    fn counted(&self, n: usize) -> usize
+        ensures { result ≡ counted_len self.now n }
     {
         if is_within(self.username_len, self.password_len) {
             return n;
@@ -59,36 +53,26 @@ impl Credentials {
         0
     }
 
-    // The name, as a part of `all`: the bytes that the caller copied out of the record.
-    pub(crate) fn name<'a>(self, all: &'a [u8]) -> &'a [u8]
-        requires { all.now ≡ self.bytes }
-        ensures { result.now ≡ name_of self }
+    pub(crate) fn name(&self) -> &[u8]
+        ensures { result.now ≡ name_of self.now }
     {
-        let n = self.counted(self.username_len);
-        &all[..n]
+        &self.bytes[..self.counted(self.username_len)]
     }
 
-    // The password, likewise.
-    pub(crate) fn password<'a>(self, all: &'a [u8]) -> &'a [u8]
-        requires { all.now ≡ self.bytes }
-        ensures { result.now ≡ password_of self }
+    pub(crate) fn password(&self) -> &[u8]
+        ensures { result.now ≡ password_of self.now }
     {
         let n = self.counted(self.username_len);
         let m = self.counted(self.password_len);
-        &all[n..n + m]
+        &self.bytes[n..n + m]
     }
 }
 
-// The bytes of `d` from index `at` on.
-fn place(bytes: [u8; MAX_CREDENTIALS], at: usize, d: &[u8]) -> [u8; MAX_CREDENTIALS]
+// The bytes of `d` from index `at` on; a function, so that its contract says `sets`.
+fn place(mut bytes: [u8; MAX_CREDENTIALS], at: usize, d: &[u8]) -> [u8; MAX_CREDENTIALS]
     requires { at + length d.now ≤ max_credentials }
     ensures { result ≡ sets bytes at d.now }
 {
-    let mut out = bytes;
-    let mut i = 0;
-    while i < d.len() {
-        out[at + i] = d[i];
-        i += 1;
-    }
-    out
+    bytes[at..at + d.len()].copy_from_slice(d);
+    bytes
 }

@@ -5,7 +5,7 @@ ghost use Rattle.options.specs.Reply.{Ready};
 ghost use Rattle.negotiation.specs.Messages.{max_rejected, next_id, request_bytes, code_of, reply_bytes, term_ack_bytes, echo_bytes, reject_bytes};
 
 use crate::replies::{emit, emit_packet};
-use options::proto::{Proto, Verdict, own_options, protocol};
+use options::proto::{Proto, Verdict};
 use options::walk::Reply;
 use options::wire::{
     CONFIGURE_ACK, CONFIGURE_NACK, CONFIGURE_REJ, CONFIGURE_REQ, ECHO_REPLY, LCP, MAX_PACKET,
@@ -19,14 +19,14 @@ pub(crate) const MAX_REJECTED: usize = MAX_PACKET - 6;
 pub(crate) fn next_id(id: u8) -> u8
     ensures { result ≡ next_id id }
 {
-    std::num::wrapping_add_u8(id, 1)
+    id.wrapping_add(1)
 }
 
 // An own request.
 pub(crate) fn request_packet(p: Proto, id: u8) -> Packet
     ensures { result ≡ pkt_of (request_bytes p id) }
 {
-    emit_packet(protocol(p), CONFIGURE_REQ, id, own_options(p))
+    emit_packet(p.protocol(), CONFIGURE_REQ, id, p.own_options())
 }
 
 fn reply_code(v: Verdict) -> u8
@@ -44,16 +44,13 @@ pub(crate) fn reply_packet(id: u8, r: Reply) -> Packet
     requires { Ready r }
     ensures { result ≡ pkt_of (reply_bytes id r) }
 {
-    let v = r.verdict;
-    let p = r.proto;
-    let b = r.packet;
-    emit_packet(protocol(p), reply_code(v), id, b)
+    emit_packet(r.proto.protocol(), reply_code(r.verdict), id, r.packet)
 }
 
 pub(crate) fn terminate_ack_packet(p: Proto, id: u8) -> Packet
     ensures { result ≡ pkt_of (term_ack_bytes p id) }
 {
-    emit_packet(protocol(p), TERMINATE_ACK, id, Packet::blank())
+    emit_packet(p.protocol(), TERMINATE_ACK, id, Packet::blank())
 }
 
 // The echo of a packet that has a code.
@@ -61,9 +58,10 @@ pub(crate) fn echo_packet(q: Proto, p: &[u8]) -> Packet
     requires { (3 ≤ length p.now) × (length p.now ≤ max_packet) }
     ensures { result ≡ pkt_of (echo_bytes q p.now) }
 {
-    let v = protocol(q);
-    let head = [(v / 256 % 256) as u8, (v % 256) as u8, ECHO_REPLY];
-    Packet::blank().push_all(&head).push_all(&p[3..])
+    let [a, b] = q.protocol().to_be_bytes();
+    Packet::blank()
+        .push_all(&[a, b, ECHO_REPLY])
+        .push_all(&p[3..])
 }
 
 // Protocol-Reject is LCP's, whichever protocol the packet has.

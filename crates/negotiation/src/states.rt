@@ -4,7 +4,7 @@ ghost use Rattle.negotiation.specs.Automaton.{after_acked, after_not_acked, afte
 
 use options::proto::Verdict;
 
-#[derive(Clone, Copy)]
+#[derive(Clone, Copy, PartialEq, Eq)]
 pub enum State {
     Closed,
     ReqSent,
@@ -13,108 +13,81 @@ pub enum State {
     Opened,
 }
 
-fn after_acked(s: State) -> State
-    ensures { result ≡ after_acked s }
-{
-    match s {
-        State::Closed => State::Closed,
-        State::ReqSent => State::AckSent,
-        State::AckReceived => State::Opened,
-        State::AckSent => State::AckSent,
-        State::Opened => State::AckSent,
+impl State {
+    fn after_acked(self) -> Self
+        ensures { result ≡ after_acked self }
+    {
+        match self {
+            State::Closed => State::Closed,
+            State::AckReceived => State::Opened,
+            State::ReqSent | State::AckSent | State::Opened => State::AckSent,
+        }
     }
-}
 
-fn after_not_acked(s: State) -> State
-    ensures { result ≡ after_not_acked s }
-{
-    match s {
-        State::Closed => State::Closed,
-        State::ReqSent => State::ReqSent,
-        State::AckReceived => State::AckReceived,
-        State::AckSent => State::ReqSent,
-        State::Opened => State::ReqSent,
+    fn after_not_acked(self) -> Self
+        ensures { result ≡ after_not_acked self }
+    {
+        match self {
+            State::Closed => State::Closed,
+            State::AckReceived => State::AckReceived,
+            State::ReqSent | State::AckSent | State::Opened => State::ReqSent,
+        }
     }
-}
 
-pub(crate) fn after_req(s: State, v: Verdict) -> State
-    ensures { result ≡ after_req s v }
-{
-    match v {
-        Verdict::Ack => after_acked(s),
-        Verdict::Nack => after_not_acked(s),
-        Verdict::Rej => after_not_acked(s),
+    pub(crate) fn after_req(self, v: Verdict) -> Self
+        ensures { result ≡ after_req self v }
+    {
+        match v {
+            Verdict::Ack => self.after_acked(),
+            Verdict::Nack | Verdict::Rej => self.after_not_acked(),
+        }
     }
-}
 
-pub(crate) fn after_ack(s: State) -> State
-    ensures { result ≡ after_ack s }
-{
-    match s {
-        State::Closed => State::Closed,
-        State::ReqSent => State::AckReceived,
-        State::AckReceived => State::ReqSent,
-        State::AckSent => State::Opened,
-        State::Opened => State::ReqSent,
+    pub(crate) fn after_ack(self) -> Self
+        ensures { result ≡ after_ack self }
+    {
+        match self {
+            State::Closed => State::Closed,
+            State::ReqSent => State::AckReceived,
+            State::AckSent => State::Opened,
+            State::AckReceived | State::Opened => State::ReqSent,
+        }
     }
-}
 
-pub(crate) fn ack_resends(s: State) -> bool
-    ensures { result ≡ ack_resends s }
-{
-    match s {
-        State::Closed => false,
-        State::ReqSent => false,
-        State::AckReceived => true,
-        State::AckSent => false,
-        State::Opened => true,
+    pub(crate) fn ack_resends(self) -> bool
+        ensures { result ≡ ack_resends self }
+    {
+        matches!(self, State::AckReceived | State::Opened)
     }
-}
 
-pub(crate) fn after_nack(s: State) -> State
-    ensures { result ≡ after_nack s }
-{
-    match s {
-        State::Closed => State::Closed,
-        State::ReqSent => State::ReqSent,
-        State::AckReceived => State::ReqSent,
-        State::AckSent => State::AckSent,
-        State::Opened => State::ReqSent,
+    pub(crate) fn after_nack(self) -> Self
+        ensures { result ≡ after_nack self }
+    {
+        match self {
+            State::Closed => State::Closed,
+            State::AckSent => State::AckSent,
+            State::ReqSent | State::AckReceived | State::Opened => State::ReqSent,
+        }
     }
-}
 
-pub(crate) fn after_term(s: State) -> State
-    ensures { result ≡ after_term s }
-{
-    match s {
-        State::Closed => State::Closed,
-        State::ReqSent => State::ReqSent,
-        State::AckReceived => State::ReqSent,
-        State::AckSent => State::ReqSent,
-        State::Opened => State::Closed,
+    pub(crate) fn after_term(self) -> Self
+        ensures { result ≡ after_term self }
+    {
+        match self {
+            State::Closed | State::Opened => State::Closed,
+            State::ReqSent | State::AckReceived | State::AckSent => State::ReqSent,
+        }
     }
-}
 
-pub fn is_closed(s: State) -> bool
-    ensures { result ≡ is_closed s }
-{
-    match s {
-        State::Closed => true,
-        State::ReqSent => false,
-        State::AckReceived => false,
-        State::AckSent => false,
-        State::Opened => false,
+    pub fn is_closed(self) -> bool
+        ensures { result ≡ is_closed self }
+    {
+        self == State::Closed
     }
-}
 
-pub fn is_opened(s: State) -> bool
-    ensures { result ≡ is_opened s }
-{
-    match s {
-        State::Closed => false,
-        State::ReqSent => false,
-        State::AckReceived => false,
-        State::AckSent => false,
-        State::Opened => true,
+    pub fn is_opened(self) -> bool
+        ensures { result ≡ is_opened self }
+    {
+        self == State::Opened
     }
 }

@@ -14,14 +14,15 @@ use Rattle.options.specs.declared.walk.Reply.{Reply}
 use Rattle.options.specs.declared.proto.Proto.{Proto}
 use Rattle.options.specs.declared.proto.Proto.TheVariants.{Lcp, Ipv4cp}
 use Rattle.options.specs.declared.proto.Verdict.{Verdict}
-use Rattle.options.specs.declared.refusal.Outcome.{Outcome}
-use Rattle.options.specs.declared.refusal.Outcome.TheVariants.{Done}
+use Rattle.std.specs.Prelude.{Result, Ok}
+use Rattle.options.specs.declared.refusal.Refusal.{Refusal}
 use Rattle.options.specs.Refusal.{is_done}
-use Rattle.options.specs.Wire.{max_packet, pkt_of, content_of, packet_of}
+use Rattle.options.specs.Wire.{max_packet, pkt_of, content_of, Tidy, packet_of}
 use Rattle.options.specs.Options.{max_options, max_option_len, max_listed, field_size, max_own, own_field, Walk, done, cut, opt, opt_bytes, sent_back}
 use Rattle.options.specs.Proto.{protocol_of, start_of, suggestion_of, judge_of, own_of, own_nacked, nacks_of}
 use Rattle.options.specs.Reply.{rank_of, fresh_reply, listed_of, step_of, reply_of, Ready}
-use Rattle.options.proofs.Wires.{tidy_pkt, len_pkt}
+use Rattle.options.proofs.Wires.{tidy_pkt, len_pkt, tidy_of, len_of}
+use Rattle.options.specs.declared.wire.Packet.{Packet}
 
 abbrev pub Short : List ℕ → Type 0
 Short l = length l ≤ max_packet
@@ -42,6 +43,10 @@ own_short (Ipv4cp p) =
     let c = own_one p.dns_server_2.is_rejected 131 p.dns_server_2.address in
     rw (length-append, length-append) (omega arith)
 
+-- the own options in a packet
+pub own_packet : (p : Proto) {q : Packet} → q ≡ pkt_of (own_of p) → (q ≡ pkt_of (own_of p)) × Tidy q × (q.len ≤ max_own)
+own_packet p e = (e, tidy_of _ e, omega (arith, len_of _ e, own_short p))
+
 -- ---- the reply to a request
 
 -- a reply with room for what may still be listed, of the protocol with the number k
@@ -51,7 +56,7 @@ pub record Fair (k : ℕ) (r : Reply) : Type 0 where
 
 module _ (k : ℕ) (r : Reply) (fair : Fair k r) where
   -- the list stays
-  fair_kept : (o : Outcome) (p : Proto) → protocol_of p ≡ k
+  fair_kept : (o : Result Unit Refusal) (p : Proto) → protocol_of p ≡ k
       → Fair k (record { outcome = o; verdict = r.verdict; count = r.count; packet = r.packet; proto = p })
   fair_kept o p e = record { ready = record { tidy = fair.ready.tidy; most = fair.ready.most; room = fair.ready.room }; kind = e }
 
@@ -67,7 +72,7 @@ module _ (k : ℕ) (r : Reply) (fair : Fair k r) where
       (rw (length-append, length-take) (omega (arith, fair.ready.room)))))))
     where
       listing : (n : ℕ) (l : List ℕ) → n ≤ max_options → length l ≤ max_listed * n
-          → Fair k (record { outcome = Done; verdict = v; count = n; packet = pkt_of l; proto = p })
+          → Fair k (record { outcome = Ok tt; verdict = v; count = n; packet = pkt_of l; proto = p })
       listing n l h g = record { ready = record { tidy = tidy_pkt l; most = h; room = omega (arith, len_pkt l) }; kind = e }
 
 judge_kind : (p : Proto) (c : ℕ) (d : List ℕ) → protocol_of (judge_of p c d).proto ≡ protocol_of p

@@ -5,7 +5,7 @@ use Rattle.laws.specs.Same.{same}
 use Rattle.options.specs.declared.lcp.AuthType.{AuthType}
 use Rattle.options.specs.declared.lcp.AuthType.TheVariants.{None, Pap}
 use Rattle.options.specs.declared.lcp.Lcp.{Lcp}
-use Rattle.options.specs.declared.lcp.LcpJudged.{LcpJudged}
+use Rattle.options.specs.declared.proto.Judged.{Judged}
 use Rattle.options.specs.declared.proto.Verdict.{Verdict}
 use Rattle.options.specs.declared.proto.Verdict.TheVariants.{Ack, Nack, Rej}
 use Rattle.options.specs.Options.{own_field}
@@ -31,11 +31,11 @@ start_lcp p = with_auth p None
 unfoldable pub suggestion_lcp : Lcp → List ℕ
 suggestion_lcp p = 0xC0 ∷ 0x23 ∷ []
 
-abbrev pub judged_lcp : Verdict → Lcp → LcpJudged
-judged_lcp v p = record { verdict = v; lcp = p }
+abbrev pub judged_lcp : Verdict → Lcp → Judged Lcp
+judged_lcp v p = record { verdict = v; proto = p }
 
 -- option 2 with 4 bytes is acked and stored; option 3 is acked for what is suggested, else nacked; others are rejected
-abbrev pub judge_lcp : Lcp → ℕ → List ℕ → LcpJudged
+abbrev pub judge_lcp : Lcp → ℕ → List ℕ → Judged Lcp
 judge_lcp p c d =
     cond (eqb c 2)
     (cond (eqb (length d) 4) (judged_lcp Ack (with_remote p (be_of d))) (judged_lcp Rej p))

@@ -1,8 +1,7 @@
 -- Options in a list of bytes: one at its front, and all of them up to the end or to the first that is cut.
-use Rattle.std.specs.Prelude.{Bool, cond, List, [], ◌∷◌, ℕ, zero, suc, ◌+◌, ◌-◌, ◌*◌, ltb, length, get_or, take, drop}
+use Rattle.std.specs.Prelude.{Bool, cond, List, [], ◌∷◌, ℕ, zero, suc, ◌+◌, ◌-◌, ◌*◌, ltb, length, get_or, take, drop, Option, None, Some}
 use Rattle.laws.specs.Be.{be_bytes}
-use Rattle.options.specs.declared.walk.Parsed.{Parsed}
-use Rattle.options.specs.declared.walk.Parsed.TheVariants.{Opt, Cut}
+use Rattle.options.specs.declared.walk.Head.{Head}
 use Rattle.options.specs.declared.proto.Verdict.{Verdict}
 use Rattle.options.specs.declared.proto.Verdict.TheVariants.{Ack, Nack, Rej}
 
@@ -23,12 +22,12 @@ field_size = 6
 abbrev pub max_own : ℕ
 max_own = 3 * field_size
 
--- code and length, or Cut: no room for both, an option longer than the rest, or one under 2 bytes
-abbrev pub option_of : List ℕ → Parsed
+-- code and length, or None: no room for both, an option longer than the rest, or one under 2 bytes
+abbrev pub option_of : List ℕ → Option Head
 option_of s =
-    cond (ltb (length s) 2) Cut
-    (cond (ltb (length s) (get_or s 1 0)) Cut
-    (cond (ltb (get_or s 1 0) 2) Cut (Opt (get_or s 0 0) (get_or s 1 0))))
+    cond (ltb (length s) 2) None
+    (cond (ltb (length s) (get_or s 1 0)) None
+    (cond (ltb (get_or s 1 0) 2) None (Some (record { code = get_or s 0 0; len = get_or s 1 0 }))))
 
 -- the options in order; where one is cut, its offset from the first option byte
 pub data Walk : Type 0 where
@@ -36,9 +35,9 @@ pub data Walk : Type 0 where
   cut : ℕ → Walk
   opt : ℕ → List ℕ → Walk → Walk
 
-abbrev pub walk_by : ℕ → List ℕ → Parsed → (ℕ → List ℕ → Walk) → Walk
-walk_by at s Cut on = cut at
-walk_by at s (Opt c n) on = opt c (take (n - 2) (drop 2 s)) (on (at + n) (drop n s))
+abbrev pub walk_by : ℕ → List ℕ → Option Head → (ℕ → List ℕ → Walk) → Walk
+walk_by at s None on = cut at
+walk_by at s (Some h) on = opt h.code (take (h.len - 2) (drop 2 s)) (on (at + h.len) (drop h.len s))
 
 -- at most k options
 unfoldable pub walk_in : ℕ → ℕ → List ℕ → Walk

@@ -1,5 +1,5 @@
 -- The two protocols that negotiate options, by cases.
-use Rattle.std.specs.Prelude.{Bool, List, [], ℕ}
+use Rattle.std.specs.Prelude.{Bool, List, [], ℕ, Ok, Err}
 use Rattle.options.specs.Lcp.{start_lcp, suggestion_lcp, judge_lcp, own_lcp, lcp_nacked}
 use Rattle.options.specs.Ipv4cp.{judge_ipv4cp, own_ipv4cp, ipv4cp_nacked}
 use Rattle.options.specs.Options.{Walk, done, cut, opt}
@@ -7,7 +7,6 @@ use Rattle.options.specs.declared.proto.Proto.{Proto}
 use Rattle.options.specs.declared.proto.Proto.TheVariants.{Lcp, Ipv4cp}
 use Rattle.options.specs.declared.proto.Judged.{Judged}
 use Rattle.options.specs.declared.proto.Nacked.{Nacked}
-use Rattle.options.specs.declared.refusal.Outcome.TheVariants.{Done, Refused}
 use Rattle.options.specs.declared.refusal.Refusal.TheVariants.{OptionCut}
 
 abbrev pub protocol_of : Proto → ℕ
@@ -24,9 +23,9 @@ suggestion_of (Lcp p) = suggestion_lcp p
 suggestion_of (Ipv4cp p) = []
 
 -- the verdict on an option c with the value d, and what the option changes
-abbrev pub judge_of : Proto → ℕ → List ℕ → Judged
-judge_of (Lcp p) c d = record { verdict = (judge_lcp p c d).verdict; proto = Lcp (judge_lcp p c d).lcp }
-judge_of (Ipv4cp p) c d = record { verdict = (judge_ipv4cp p c d).verdict; proto = Ipv4cp (judge_ipv4cp p c d).ipv4cp }
+abbrev pub judge_of : Proto → ℕ → List ℕ → Judged Proto
+judge_of (Lcp p) c d = record { verdict = (judge_lcp p c d).verdict; proto = Lcp (judge_lcp p c d).proto }
+judge_of (Ipv4cp p) c d = record { verdict = (judge_ipv4cp p c d).verdict; proto = Ipv4cp (judge_ipv4cp p c d).proto }
 
 -- the options of an own request
 abbrev pub own_of : Proto → List ℕ
@@ -39,6 +38,6 @@ own_nacked (Ipv4cp p) c d rej = Ipv4cp (ipv4cp_nacked p c d rej)
 
 -- all options of a Nack or a Rej
 unfoldable pub nacks_of : Bool → Proto → Walk → Nacked
-nacks_of rej p done = record { outcome = Done; proto = p }
-nacks_of rej p (cut at) = record { outcome = Refused (OptionCut at); proto = p }
+nacks_of rej p done = record { outcome = Ok tt; proto = p }
+nacks_of rej p (cut at) = record { outcome = Err (OptionCut at); proto = p }
 nacks_of rej p (opt c d w) = nacks_of rej (own_nacked p c d rej) w

@@ -1,9 +1,7 @@
 -- The refusal numbers of documents 01 and 02, of the refusals that negotiation gives.
-use Rattle.std.specs.Prelude.{Bool, true, false, List, [], ◌∷◌, ℕ}
+use Rattle.std.specs.Prelude.{Bool, true, false, List, [], ◌∷◌, ℕ, Result, Ok, Err}
 use Rattle.options.specs.declared.refusal.Refusal.{Refusal}
 use Rattle.options.specs.declared.refusal.Refusal.TheVariants.{NotDead, CredentialsLong, PacketShort, ConfigureShort, EchoEmpty, PapPast, OptionCut, OptionLong, OptionsMany, ReplyLong}
-use Rattle.options.specs.declared.refusal.Outcome.{Outcome}
-use Rattle.options.specs.declared.refusal.Outcome.TheVariants.{Done, Refused}
 
 abbrev pub number_of : Refusal → ℕ
 number_of NotDead = 2
@@ -31,14 +29,14 @@ values_of OptionsMany = []
 values_of ReplyLong = []
 
 -- 0 where nothing was refused
-abbrev pub outcome_number : Outcome → ℕ
-outcome_number Done = 0
-outcome_number (Refused r) = number_of r
+abbrev pub outcome_number : Result Unit Refusal → ℕ
+outcome_number (Ok x) = 0
+outcome_number (Err r) = number_of r
 
-abbrev pub outcome_values : Outcome → List ℕ
-outcome_values Done = []
-outcome_values (Refused r) = values_of r
+abbrev pub outcome_values : Result Unit Refusal → List ℕ
+outcome_values (Ok x) = []
+outcome_values (Err r) = values_of r
 
-abbrev pub is_done : Outcome → Bool
-is_done Done = true
-is_done (Refused r) = false
+abbrev pub is_done : Result Unit Refusal → Bool
+is_done (Ok x) = true
+is_done (Err r) = false

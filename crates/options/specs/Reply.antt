@@ -1,13 +1,12 @@
 -- The reply to a ConfigureReq (document 01, 'Options'): Rej outranks Nack, Nack outranks Ack; a higher verdict clears the list, a
 -- lower one is not listed; at most 6 options of 4 data bytes.
-use Rattle.std.specs.Prelude.{cond, List, [], ◌++◌, ℕ, ◌+◌, ◌*◌, ◌≤◌, ltb, leb, length}
+use Rattle.std.specs.Prelude.{cond, List, [], ◌++◌, ℕ, ◌+◌, ◌*◌, ◌≤◌, ltb, leb, length, Ok, Err}
 use Rattle.options.specs.Refusal.{is_done}
 use Rattle.options.specs.Wire.{pkt_of, content_of, Tidy}
 use Rattle.options.specs.Options.{max_options, max_option_len, max_listed, Walk, done, cut, opt, opt_bytes, sent_back}
 use Rattle.options.specs.Proto.{suggestion_of, judge_of}
 use Rattle.options.specs.declared.refusal.Refusal.{Refusal}
 use Rattle.options.specs.declared.refusal.Refusal.TheVariants.{OptionCut, OptionLong, OptionsMany}
-use Rattle.options.specs.declared.refusal.Outcome.TheVariants.{Done, Refused}
 use Rattle.options.specs.declared.proto.Proto.{Proto}
 use Rattle.options.specs.declared.proto.Verdict.{Verdict}
 use Rattle.options.specs.declared.proto.Verdict.TheVariants.{Ack, Nack, Rej}
@@ -20,16 +19,16 @@ rank_of Nack = 1
 rank_of Rej = 2
 
 abbrev pub fresh_reply : Proto → Reply
-fresh_reply p = record { outcome = Done; verdict = Ack; count = 0; packet = pkt_of []; proto = p }
+fresh_reply p = record { outcome = Ok tt; verdict = Ack; count = 0; packet = pkt_of []; proto = p }
 
 abbrev pub refused_by : Reply → Refusal → Reply
-refused_by r why = record { outcome = Refused why; verdict = r.verdict; count = r.count; packet = r.packet; proto = r.proto }
+refused_by r why = record { outcome = Err why; verdict = r.verdict; count = r.count; packet = r.packet; proto = r.proto }
 
 abbrev pub with_proto : Reply → Proto → Reply
 with_proto r p = record { outcome = r.outcome; verdict = r.verdict; count = r.count; packet = r.packet; proto = p }
 
 abbrev pub listing : Verdict → ℕ → List ℕ → Proto → Reply
-listing v n l p = record { outcome = Done; verdict = v; count = n; packet = pkt_of l; proto = p }
+listing v n l p = record { outcome = Ok tt; verdict = v; count = n; packet = pkt_of l; proto = p }
 
 -- a verdict v on option c, with the value d to be sent back: not listed, refused, alone in the list, or one more
 unfoldable pub listed_of : Reply → Proto → Verdict → ℕ → List ℕ → Reply
@@ -44,7 +43,7 @@ listed_of r p v c d =
     (refused_by r OptionsMany)
     (listing v (r.count + 1) (content_of r.packet ++ opt_bytes c d) p))))
 
-abbrev pub step_with : Reply → Judged → ℕ → List ℕ → Reply
+abbrev pub step_with : Reply → Judged Proto → ℕ → List ℕ → Reply
 step_with r j c d = listed_of r j.proto j.verdict c (sent_back j.verdict d (suggestion_of r.proto))
 
 -- one option of the request; what is suggested is the record's in hand

@@ -2,7 +2,7 @@
 ghost use Rattle.std.specs.Prelude.{◌≡◌};
 ghost use Rattle.options.specs.Refusal.{number_of};
 
-#[derive(Clone, Copy)]
+#[derive(Clone, Copy, PartialEq, Eq)]
 pub enum Refusal {
     // `open` in a phase that is not Dead.
     NotDead,
@@ -26,25 +26,21 @@ pub enum Refusal {
     ReplyLong,
 }
 
-#[derive(Clone, Copy)]
-pub enum Outcome {
-    Done,
-    Refused(Refusal),
-}
+impl From<Refusal> for u8 {
+    ghost from_gives = { λ r n. n ≡ number_of r };
 
-pub fn number(r: Refusal) -> u8
-    ensures { result ≡ number_of r }
-{
-    match r {
-        Refusal::NotDead => 2,
-        Refusal::CredentialsLong => 4,
-        Refusal::PacketShort => 5,
-        Refusal::ConfigureShort => 11,
-        Refusal::EchoEmpty => 12,
-        Refusal::PapPast => 13,
-        Refusal::OptionCut(_) => 7,
-        Refusal::OptionLong => 8,
-        Refusal::OptionsMany => 9,
-        Refusal::ReplyLong => 10,
+    fn from(r: Refusal) -> Self {
+        match r {
+            Refusal::NotDead => 2,
+            Refusal::CredentialsLong => 4,
+            Refusal::PacketShort => 5,
+            Refusal::ConfigureShort => 11,
+            Refusal::EchoEmpty => 12,
+            Refusal::PapPast => 13,
+            Refusal::OptionCut(_) => 7,
+            Refusal::OptionLong => 8,
+            Refusal::OptionsMany => 9,
+            Refusal::ReplyLong => 10,
+        }
     }
 }

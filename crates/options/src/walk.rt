@@ -1,35 +1,32 @@
 // The options of a configure packet: one off the rest, and the list that is sent back for a request.
 ghost use Rattle.std.specs.Prelude.{◌≡◌, ◌+◌, ◌≤◌, length};
-ghost use Rattle.options.specs.Wire.{max_packet, Tidy, Pushed};
-ghost use Rattle.options.specs.Refusal.{is_done};
+ghost use Rattle.options.specs.Wire.{max_packet, pushed_all};
 ghost use Rattle.options.specs.Options.{max_option_len, max_listed, option_of, opt_bytes, sent_back, walk_of};
-ghost use Rattle.options.specs.Reply.{rank_of, fresh_reply, refused_by, with_proto, listed_of, step_of, reply_of, Ready};
+ghost use Rattle.options.specs.Reply.{fresh_reply, refused_by, with_proto, listed_of, step_of, reply_of, Ready};
 
-use crate::proto::{Proto, Verdict, peer_option_received, suggestion};
-use crate::refusal::{Outcome, Refusal};
+use crate::proto::{Judged, Proto, Verdict};
+use crate::refusal::Refusal;
 use crate::wire::{MAX_OPTION_LEN, MAX_OPTIONS, Packet};
 
-#[derive(Clone, Copy)]
-pub enum Parsed {
-    Opt { code: u8, len: usize },
-    Cut,
+// The code of an option, and its length with these two bytes.
+#[derive(Clone, Copy, PartialEq, Eq)]
+pub struct Head {
+    pub code: u8,
+    pub len: usize,
 }
 
-// The option at the front of `s`.
-pub(crate) fn parse_option(s: &[u8]) -> Parsed
+// The option at the front of `s`, unless it is cut.
+pub(crate) fn parse_option(s: &[u8]) -> Option<Head>
     ensures { result ≡ option_of s.now }
 {
     if s.len() < 2 {
-        return Parsed::Cut;
+        return None;
     }
-    let len = s[1] as usize;
-    if s.len() < len {
-        return Parsed::Cut;
+    let len = usize::from(s[1]);
+    if s.len() < len || len < 2 {
+        return None;
     }
-    if len < 2 {
-        return Parsed::Cut;
-    }
-    Parsed::Opt { code: s[0], len }
+    Some(Head { code: s[0], len })
 }
 
 // The value sent back: a part of the request, or of the suggestion list.
@@ -38,158 +35,109 @@ pub(crate) fn sent_back<'a>(v: Verdict, d: &'a [u8], suggested: &'a [u8]) -> &'a
 {
     match v {
         Verdict::Nack => suggested,
-        Verdict::Ack => d,
-        Verdict::Rej => d,
+        Verdict::Ack | Verdict::Rej => d,
     }
 }
 
-// The reply so far: its verdict, the options listed as bytes, and what the options changed.
+// The reply so far: its verdict, the options listed as bytes, and what the options changed; `reply_of` says it of a refused walk too.
+// `Ready` is no invariant of it: `step_of` and `reply_of`, which theorems cite, are said of every reply.
 #[derive(Clone, Copy)]
 pub struct Reply {
-    pub outcome: Outcome,
+    pub outcome: Result<(), Refusal>,
     pub verdict: Verdict,
     pub count: usize,
     pub packet: Packet,
     pub proto: Proto,
 }
 
-fn rank(v: Verdict) -> usize
-    ensures { result ≡ rank_of v }
-{
-    match v {
-        Verdict::Ack => 0,
-        Verdict::Nack => 1,
-        Verdict::Rej => 2,
-    }
-}
-
-pub(crate) fn is_done(o: Outcome) -> bool
-    ensures { result ≡ is_done o }
-{
-    match o {
-        Outcome::Done => true,
-        Outcome::Refused(_) => false,
-    }
-}
-
-fn fresh(p: Proto) -> Reply
-    ensures { (result ≡ fresh_reply p) × Ready result }
-{
-    Reply {
-        outcome: Outcome::Done,
-        verdict: Verdict::Ack,
-        count: 0,
-        packet: Packet::blank(),
-        proto: p,
-    }
-}
-
-fn refused(r: Reply, why: Refusal) -> Reply
-    ensures { result ≡ refused_by r why }
-{
-    let p = r.packet;
-    let q = r.proto;
-    let v = r.verdict;
-    Reply {
-        outcome: Outcome::Refused(why),
-        verdict: v,
-        count: r.count,
-        packet: p,
-        proto: q,
-    }
-}
-
-fn with_proto(r: Reply, q: Proto) -> Reply
-    ensures { result ≡ with_proto r q }
-{
-    let o = r.outcome;
-    let p = r.packet;
-    let v = r.verdict;
-    Reply {
-        outcome: o,
-        verdict: v,
-        count: r.count,
-        packet: p,
-        proto: q,
-    }
-}
-
 // An option behind what the packet holds.
 fn push_option(p: Packet, code: u8, d: &[u8]) -> Packet
-    requires { Tidy p × (p.len + max_listed ≤ max_packet) × (length d.now ≤ max_option_len) }
-    ensures { Pushed p result (opt_bytes code d.now) }
+    requires { (p.len + max_listed ≤ max_packet) × (length d.now ≤ max_option_len) }
+    ensures { result ≡ pushed_all p (opt_bytes code d.now) }
 {
-    let head = [code, (d.len() + 2) as u8];
-    p.push_all(&head).push_all(d)
+    p.push_all(&[code, (d.len() + 2) as u8]).push_all(d)
 }
 
-// The value `d` is to be sent back for the option `code`, with verdict `v`: a higher verdict clears the list, a lower one is not listed.
-fn list(r: Reply, q: Proto, v: Verdict, code: u8, d: &[u8]) -> Reply
-    requires { Ready r }
-    ensures { (result ≡ listed_of r q v code d.now) × Ready result }
-{
-    let w = r.verdict;
-    let old = rank(w);
-    let new = rank(v);
-    if new < old {
-        return with_proto(r, q);
+impl Reply {
+    fn fresh(p: Proto) -> Self
+        ensures { (result ≡ fresh_reply p) × Ready result }
+    {
+        Reply {
+            outcome: Ok(()),
+            verdict: Verdict::Ack,
+            count: 0,
+            packet: Packet::blank(),
+            proto: p,
+        }
     }
-    if MAX_OPTION_LEN < d.len() {
-        return refused(r, Refusal::OptionLong);
-    }
-    if old < new {
-        let b = push_option(Packet::blank(), code, d);
-        return Reply {
-            outcome: Outcome::Done,
-            verdict: v,
-            count: 1,
-            packet: b,
-            proto: q,
-        };
-    }
-    let n = r.count;
-    if MAX_OPTIONS <= n {
-        return refused(r, Refusal::OptionsMany);
-    }
-    let p = r.packet;
-    let b = push_option(p, code, d);
-    Reply {
-        outcome: Outcome::Done,
-        verdict: v,
-        count: n + 1,
-        packet: b,
-        proto: q,
-    }
-}
 
-// One option of the request.
-fn answer_option(r: Reply, code: u8, d: &[u8]) -> Reply
-    requires { Ready r }
-    ensures { (result ≡ step_of r code d.now) × Ready result }
-{
-    let q = r.proto;
-    let s = suggestion(q);
-    let n = s.len;
-    let bytes = s.bytes;
-    let j = peer_option_received(q, code, d);
-    let v = j.verdict;
-    let p = j.proto;
-    list(r, p, v, code, sent_back(v, d, &bytes[..n]))
+    fn refused(self, why: Refusal) -> Self
+        ensures { result ≡ refused_by self why }
+    {
+        Reply {
+            outcome: Err(why),
+            ..self
+        }
+    }
+
+    // The value `d` is to be sent back for the option `code`, judged as `j`: a higher verdict clears the list, a lower one is not listed.
+    fn list(self, j: Judged<Proto>, code: u8, d: &[u8]) -> Self
+        requires { Ready self }
+        ensures { (result ≡ listed_of self j.proto j.verdict code d.now) × Ready result }
+    {
+        if j.verdict < self.verdict {
+            return Reply {
+                proto: j.proto,
+                ..self
+            };
+        }
+        if MAX_OPTION_LEN < d.len() {
+            return self.refused(Refusal::OptionLong);
+        }
+        if self.verdict < j.verdict {
+            return Reply {
+                outcome: Ok(()),
+                verdict: j.verdict,
+                count: 1,
+                packet: push_option(Packet::blank(), code, d),
+                proto: j.proto,
+            };
+        }
+        if MAX_OPTIONS <= self.count {
+            return self.refused(Refusal::OptionsMany);
+        }
+        Reply {
+            outcome: Ok(()),
+            verdict: j.verdict,
+            count: self.count + 1,
+            packet: push_option(self.packet, code, d),
+            proto: j.proto,
+        }
+    }
+
+    // One option of the request.
+    fn answer_option(self, code: u8, d: &[u8]) -> Self
+        requires { Ready self }
+        ensures { (result ≡ step_of self code d.now) × Ready result }
+    {
+        let j = self.proto.peer_option_received(code, d);
+        let value = sent_back(j.verdict, d, self.proto.suggestion());
+        self.list(j, code, value)
+    }
 }
 
 // The reply to the options `s` of a request.
 pub fn answer_options(p: Proto, s: &[u8]) -> Reply
     ensures { (result ≡ reply_of (fresh_reply p) (walk_of s.now)) × Ready result }
 {
-    let mut r = fresh(p);
+    let mut r = Reply::fresh(p);
     let mut t = s;
-    while 0 < t.len() {
-        let Parsed::Opt { code, len } = parse_option(t) else {
-            return refused(r, Refusal::OptionCut(s.len() - t.len()));
+    while !t.is_empty() {
+        let Some(Head { code, len }) = parse_option(t) else {
+            return r.refused(Refusal::OptionCut(s.len() - t.len()));
         };
-        r = answer_option(r, code, &t[2..len]);
-        let o = r.outcome;
-        if !is_done(o) {
+        r = r.answer_option(code, &t[2..len]);
+        if r.outcome.is_err() {
             return r;
         }
         t = &t[len..];

@@ -1,8 +1,8 @@
 // Numbers on the wire, and packets as bytes in a fixed array.
-ghost use Rattle.std.specs.Prelude.{◌≡◌, [], ◌+◌, ◌≤◌, ◌<◌, length};
+ghost use Rattle.std.specs.Prelude.{◌≡◌, [], ◌≤◌, length};
 ghost use Rattle.laws.specs.Be.{be_of};
-ghost use Rattle.options.specs.Wire.{max_packet, pkt_of, Tidy, protocol_in, length_field, Pushed, pushed_all};
-ghost use Rattle.options.specs.Options.{field_size, own_field};
+ghost use Rattle.options.specs.Wire.{pkt_of, Tidy, protocol_in, length_field, pushed_all};
+ghost use Rattle.options.specs.Options.{own_field};
 
 // The bytes that a packet has room for.
 pub const MAX_PACKET: usize = 128;
@@ -15,6 +15,7 @@ pub(crate) const MAX_OPTION_LEN: usize = 4;
 // An own option of four data bytes, with its header.
 const FIELD_SIZE: u8 = 6;
 
+// Numbers and no enums: a packet may have any, and matches read them as patterns; an enum would need a way there and back for no more.
 // ProtocolType
 pub const LCP: u16 = 0xC021;
 
@@ -45,22 +46,14 @@ pub const ECHO_REPLY: u8 = 10;
 
 pub const DISCARD_REQ: u8 = 11;
 
-fn wide(b: u8) -> u32
-    ensures { (result ≡ b) × (result < 256) }
-{
-    b as u32
-}
-
 // The number that the bytes of a field say.
 pub(crate) fn be(d: &[u8]) -> u32
     requires { length d.now ≤ 4 }
     ensures { result ≡ be_of d.now }
 {
-    let mut v: u32 = 0;
-    let mut i = 0;
-    while i < d.len() {
-        v = v * 256 + wide(d[i]);
-        i += 1;
+    let mut v = 0;
+    for &b in d {
+        v = v * 256 + u32::from(b);
     }
     v
 }
@@ -69,22 +62,18 @@ pub(crate) fn be(d: &[u8]) -> u32
 pub fn protocol_in(pkt: &[u8]) -> u32
     ensures { result ≡ protocol_in pkt.now }
 {
-    if pkt.len() < 2 {
-        return be(pkt);
-    }
-    be(&pkt[..2])
+    be(&pkt[..pkt.len().min(2)])
 }
 
 // What the Length field of a packet says; a packet that ends before it says what it has.
 pub fn length_in(pkt: &[u8]) -> u32
     ensures { result ≡ length_field pkt.now }
 {
-    if pkt.len() < 4 {
-        return 0;
-    }
-    protocol_in(&pkt[4..])
+    protocol_in(&pkt[pkt.len().min(4)..])
 }
 
+// An array and its length, since memory is fixed and the record is Copy; and no invariant: `push_all` promises what it does for every
+// record (docs/PROMISES.md).
 #[derive(Clone, Copy)]
 pub struct Packet {
     pub len: usize,
@@ -105,40 +94,24 @@ impl Packet {
     pub fn push_all(self, d: &[u8]) -> Self
         ensures { result ≡ pushed_all self d.now }
     {
-        let n = self.len;
-        if MAX_PACKET < n {
-            return self;
-        }
-        if MAX_PACKET - n < d.len() {
+        if MAX_PACKET < self.len || MAX_PACKET - self.len < d.len() {
             return self;
         }
         let mut p = self;
-        let mut i = 0;
-        while i < d.len() {
-            let at = p.len;
-            p.bytes[at] = d[i];
-            p.len = at + 1;
-            i += 1;
-        }
+        let end = self.len + d.len();
+        p.bytes[self.len..end].copy_from_slice(d);
+        p.len = end;
         p
     }
 
     // An own option of four data bytes behind what the packet holds, unless it was dropped.
     pub(crate) fn push_field(self, is_dropped: bool, code: u8, v: u32) -> Self
-        requires { Tidy self × (self.len + field_size ≤ max_packet) }
-        ensures { Pushed self result (own_field is_dropped code v) × (result.len ≤ self.len + field_size) }
+        ensures { result ≡ pushed_all self (own_field is_dropped code v) }
     {
         if is_dropped {
             return self;
         }
-        let d = [
-            code,
-            FIELD_SIZE,
-            (v / 16777216 % 256) as u8,
-            (v / 65536 % 256) as u8,
-            (v / 256 % 256) as u8,
-            (v % 256) as u8,
-        ];
-        self.push_all(&d)
+        let [a, b, c, d] = v.to_be_bytes();
+        self.push_all(&[code, FIELD_SIZE, a, b, c, d])
     }
 }

@@ -9,6 +9,7 @@ use native.Mathlib.Omega.{arith}
 use borrow.Author.Tests.{lt-ltb, le-ltb}
 use lib.Dec.{ltb, eqb, lit<}
 use lib.ListN.{length, drop, get_or, set}
+use Rattle.std.specs.Prelude.{Ok, Err}
 use Rattle.laws.specs.Each.{Bytes}
 use Rattle.laws.proofs.Cases.{by_le, by_test, cond_both}
 use Rattle.options.specs.Wire.{max_packet, packet_of, content_of}
@@ -18,7 +19,6 @@ use Rattle.options.specs.Reply.{fresh_reply}
 use Rattle.negotiation.specs.Messages.{next_id, request_bytes, code_of, term_ack_bytes}
 use Rattle.negotiation.specs.Automaton as ours
 use Rattle.options.specs.declared.refusal.Refusal.TheVariants.{ConfigureShort, ReplyLong}
-use Rattle.options.specs.declared.refusal.Outcome.TheVariants.{Done, Refused}
 use Rattle.options.specs.declared.proto.Proto.{Proto}
 use Rattle.options.specs.declared.proto.Verdict as verdict
 use Rattle.options.specs.declared.proto.Nacked.{Nacked}
@@ -43,7 +43,7 @@ use Rattle.original.proofs.Replies as replies
 
 module _ {X P : Type 0} (T : theirs.Protocol P) (inj : X → Proto) (view : X → P) (stands : Stands T inj view) where
   -- the automaton with id i, in state s, over x: ours and the original's
-  abbrev pub here : ℕ → State → X → fsm.OptionFsm
+  abbrev pub here : ℕ → State → X → fsm.OptionFsm Proto
   here i s x = record { id = i; state = s; proto = inj x }
 
   abbrev pub there : ℕ → State → X → theirs.OptionFsm P
@@ -51,9 +51,9 @@ module _ {X P : Type 0} (T : theirs.Protocol P) (inj : X → Proto) (view : X �
 
   -- both leave the same and send the same; or the original gives a packet above 128 bytes, or panics, where ours refuses
   pub data SameTurn (pkt : List ℕ) : Run (theirs.Handled P) → ours.Reaction → Type 0 where
-    same : {h : theirs.Handled P} {t : ours.Reaction} (i : ℕ) (s : State) (x : X) → i < 256 → h.fsm ≡ there i s x → t.fsm ≡ here i s x → t.outcome ≡ Done
+    same : {h : theirs.Handled P} {t : ours.Reaction} (i : ℕ) (s : State) (x : X) → i < 256 → h.fsm ≡ there i s x → t.fsm ≡ here i s x → t.outcome ≡ Ok tt
         → h.pkt ≡ cond t.echoed (set pkt 2 10) pkt → (t.echoed ≡ true → 2 < length pkt) → Carried h.tx t.sent → SameTurn pkt (returns h) t
-    long : {h : theirs.Handled P} {t : ours.Reaction} (q : Packet) → h.tx ≡ q ∷ [] → max_packet < packet_len q → t.outcome ≡ Refused ReplyLong → SameTurn pkt (returns h) t
+    long : {h : theirs.Handled P} {t : ours.Reaction} (q : Packet) → h.tx ≡ q ∷ [] → max_packet < packet_len q → t.outcome ≡ Err ReplyLong → SameTurn pkt (returns h) t
     stops : {p : Place} {t : ours.Reaction} → RefusedAt p t.outcome → SameTurn pkt (panics p) t
 
   -- ---- what is sent

@@ -3,15 +3,16 @@
 use mathlib.Core.Path.{◌≡◌, refl, ap, sym, ◌∙◌}
 use mathlib.Core.Bool.{false, cond}
 use mathlib.Core.List.{List, []}
-use Prim.Native.Nat.{ℕ, ◌+◌, ◌≤◌, ◌<◌}
+use Prim.Native.Nat.{ℕ, ◌+◌, ◌-◌, ◌≤◌, ◌<◌}
 use native.Mathlib.Omega.{arith}
 use borrow.Author.Tests.{le-ltb, ltb-true}
 use lib.Dec.{ltb, eqb, lit≤}
 use lib.ListN.{length}
+use Rattle.std.specs.Prelude.{Result, Ok, Err}
 use Rattle.laws.specs.Each.{Bytes}
 use Rattle.laws.proofs.Cases.{apart, by_test}
 use Rattle.framing.specs.Reader as reader
-use Rattle.framing.specs.declared.refusal.Outcome.TheVariants as framed
+use Rattle.framing.specs.Refusal.{count_of}
 use Rattle.framing.specs.declared.frame_reader.Reading.{Reading}
 use Rattle.framing.specs.declared.frame_reader.Reading.TheVariants.{Crate}
 use Rattle.framing.specs.declared.frame_reader.FrameReader.{FrameReader}
@@ -24,13 +25,12 @@ use Rattle.phases.specs.declared.ppp.Phase.{Phase}
 use Rattle.phases.specs.declared.ppp.Phase.TheVariants.{Dead, Establish, Auth, Network, Open}
 use Rattle.phases.specs.declared.ppp.Ppp.{Ppp}
 use Rattle.link.specs.Choices.{choices_of, Plain}
-use Rattle.link.specs.Link.{link_of, Changes, Makes, Opens, Consumes}
+use Rattle.link.specs.Link.{link_of, held_by, Changes, Makes, Opens, Consumes}
 use Rattle.negotiation.proofs.CredentialLaws.{fits_sum, sum_fits, credentials_held}
 use Rattle.link.specs.Refusal.{outcome_number}
 use Rattle.link.specs.declared.refusal.Refusal.TheVariants.{Negotiation}
 use Rattle.options.specs.declared.refusal.Refusal.TheVariants.{CredentialsLong}
-use Rattle.link.specs.declared.refusal.Outcome.{Outcome}
-use Rattle.link.specs.declared.refusal.Outcome.TheVariants.{Done, Refused}
+use Rattle.link.specs.declared.refusal.Refusal.{Refusal}
 use Rattle.link.specs.declared.choices.Choices.{Choices}
 use Rattle.link.specs.declared.pppos.PPPoS.{PPPoS}
 use Rattle.original.specs.Run.{Place, returns, panics, name_long, password_long}
@@ -71,7 +71,7 @@ same-status l _ =
 
 -- ---- open
 
-open_at : (f : Phase) (r : FrameReader) (p : Ppp) {o : Outcome} {l : PPPoS} → Changes (open_of (with_phase p f)) r o l
+open_at : (f : Phase) (r : FrameReader) (p : Ppp) {o : Result Unit Refusal} {l : PPPoS} → Changes (open_of (with_phase p f)) r o l
     → SameOpen (theirs.open_link (view_link (link_of r (with_phase p f)))) (link_of r (with_phase p f)) o l
 open_at Dead r p c = (c.outcome, ap view_link c.link, ap (λ (x : PPPoS). x.frame_reader) c.link)
 open_at Establish r p c = (c.outcome, c.link)
@@ -79,19 +79,21 @@ open_at Auth r p c = (c.outcome, c.link)
 open_at Network r p c = (c.outcome, c.link)
 open_at Open r p c = (c.outcome, c.link)
 
-pub same_open : (l : PPPoS) → Plain (choices_of l) → {o : Outcome} {l' : PPPoS} → Opens l o l' → SameOpen (theirs.open_link (view_link l)) l o l'
+pub same_open : (l : PPPoS) → Plain (choices_of l) → {o : Result Unit Refusal} {l' : PPPoS} → Opens l o l' → SameOpen (theirs.open_link (view_link l)) l o l'
 same_open l _ c = open_at l.ppp.phase l.frame_reader l.ppp c
 
 -- ---- consume
 
-pub same_consume_link : (l : PPPoS) (rx bs : List ℕ) → Plain (choices_of l) → (choices_of l).reading ≡ Crate → Lent l rx → Bytes bs → {o : Outcome} {n : ℕ} {l' : PPPoS} {rx' : List ℕ} → Consumes l rx bs o n l' rx'
-    → (o ≡ Done) × (theirs.consume_link (view_link l) bs rx ≡ returns (record { count = n; link = view_link l'; rx = rx' })) × (l'.frame_reader.reading ≡ Crate)
-same_consume_link l rx bs _ crate lent given c =
+pub same_consume_link : (l : PPPoS) (rx bs : List ℕ) → Plain (choices_of l) → (choices_of l).reading ≡ Crate → Lent l rx → Bytes bs → {t : Result ℕ Refusal} {l' : PPPoS} {rx' : List ℕ} → Consumes l rx bs t l' rx'
+    → (t ≡ Ok (count_of t)) × (theirs.consume_link (view_link l) bs rx ≡ returns (record { count = count_of t; link = view_link l'; rx = rx' })) × (l'.frame_reader.reading ≡ Crate)
+same_consume_link l rx bs _ crate lent given {t} c =
+    let n = length bs - length (reader.consumed (held_by l rx) bs).left in
     let h = le-ltb (length rx) l.frame_reader.len lent.room in
     let run =
-    same-consume l.frame_reader rx bs crate lent.room lent.slice lent.bytes given {o = framed.Done}
+    same-consume l.frame_reader rx bs crate lent.room lent.slice lent.bytes given {t = Ok n}
     (record { number = rw h refl; count = refl; reader = refl; bytes = refl }) in
-    (c.outcome ∙ rw h refl, rw (run.1, c.count, c.link, c.bytes) refl, rw c.link run.2)
+    let took : t ≡ Ok n = c.outcome ∙ rw h refl in
+    (took ∙ ap Ok (sym c.count), rw (run.1, c.count, c.link, c.bytes) refl, rw c.link run.2)
 
 -- ---- new
 
@@ -112,15 +114,15 @@ fresh_is name password k h =
     let held = credentials_held name password h in
     rw (le-ltb 255 (length name) (omega arith), le-ltb 255 (length password) (omega arith), sum_fits (length name) (length password) h, held.0, held.1) refl
 
-module _ (name password : List ℕ) (k : Choices) {o : Outcome} {l : PPPoS} (c : Makes name password k o l) where
+module _ (name password : List ℕ) (k : Choices) {o : Result Unit Refusal} {l : PPPoS} (c : Makes name password k o l) where
   fresh : k.reading ≡ Crate → l.frame_reader.reading ≡ Crate
   fresh crate = ap (λ (x : PPPoS). x.frame_reader.reading) c.link ∙ crate
 
-  pub new_fits : k.reading ≡ Crate → length name + length password ≤ max_credentials → (o ≡ Done) × (theirs.new_link name password ≡ returns (view_link l)) × (l.frame_reader.reading ≡ Crate)
+  pub new_fits : k.reading ≡ Crate → length name + length password ≤ max_credentials → (o ≡ Ok tt) × (theirs.new_link name password ≡ returns (view_link l)) × (l.frame_reader.reading ≡ Crate)
   new_fits crate h =
       (c.outcome ∙ rw (sum_fits (length name) (length password) h) refl, fresh_is name password k.reading h ∙ ap returns (sym (ap view_link c.link)), fresh crate)
 
-  pub new_over : k.reading ≡ Crate → max_credentials < length name + length password → (o ≡ Refused (Negotiation CredentialsLong)) × (theirs.new_link [] [] ≡ returns (view_link l)) × (l.frame_reader.reading ≡ Crate)
+  pub new_over : k.reading ≡ Crate → max_credentials < length name + length password → (o ≡ Err (Negotiation CredentialsLong)) × (theirs.new_link [] [] ≡ returns (view_link l)) × (l.frame_reader.reading ≡ Crate)
   new_over crate h =
       let e = fits_not (length name) (length password) h in
       let link : l ≡ link_of (reader.fresh_reader k.reading) (new_of [] []).ppp = c.link ∙ rw e refl in
@@ -143,4 +145,4 @@ module _ (name password : List ℕ) (k : Choices) {o : Outcome} {l : PPPoS} (c :
       apart (cc)))
     where
       four : max_credentials < length name + length password → outcome_number o ≡ 4
-      four h = let e : o ≡ Refused (Negotiation CredentialsLong) = c.outcome ∙ rw (fits_not (length name) (length password) h) refl in ap outcome_number e
+      four h = let e : o ≡ Err (Negotiation CredentialsLong) = c.outcome ∙ rw (fits_not (length name) (length password) h) refl in ap outcome_number e

@@ -3,14 +3,16 @@
 use mathlib.Core.Path.{◌≡◌, refl, ap, ap₂, sym, ◌∙◌}
 use mathlib.Core.List.{List, [], ◌∷◌, map}
 use Prim.Native.Nat.{ℕ}
+use Rattle.std.specs.Prelude.{Result, Ok}
 use Rattle.laws.proofs.Cases.{apart, by_test}
 use Rattle.framing.specs.Reader.{Framed}
+use Rattle.framing.specs.Refusal.{count_of}
 use Rattle.link.specs.Reached.{Reached, by_new, by_open, by_consume, by_poll}
-use Rattle.link.specs.declared.refusal.Outcome.{Outcome}
-use Rattle.link.specs.declared.refusal.Outcome.TheVariants.{Done}
+use Rattle.link.specs.declared.refusal.Refusal.{Refusal}
 use Rattle.link.specs.declared.choices.Choices.{Choices}
 use Rattle.link.specs.declared.pppos.PPPoS.{PPPoS}
-use Rattle.original.specs.Run.{Run, returns, panics, ◌>>=◌, Result, ok, err}
+use Rattle.original.specs.Run as run
+use Rattle.original.specs.Run.{Run, returns, panics, ◌>>=◌, ok, err}
 use Rattle.original.specs.Framing.{WriteResult}
 use Rattle.original.specs.Pppos as theirs
 use Rattle.original.specs.View.{view_link}
@@ -70,12 +72,12 @@ record SameCall (a : OurAnswer) (l : PPPoS) (s : Answered) : Type 0 where
   answer : a ≡ as_answer s.answer
   link : view_link l ≡ s.link
 
-opened_same : (l : PPPoS) (x : Result theirs.PPPoS) {o : Outcome} {l' : PPPoS} → SameOpen x l o l' → SameCall (history.opened o) l' (opened_by (view_link l) x)
+opened_same : (l : PPPoS) (x : run.Result theirs.PPPoS) {o : Result Unit Refusal} {l' : PPPoS} → SameOpen x l o l' → SameCall (history.opened o) l' (opened_by (view_link l) x)
 opened_same l (ok m) (d, v, r) = record { answer = ap history.opened d; link = v }
 opened_same l err (d, v) = record { answer = ap history.opened d; link = ap view_link v }
 
-sent-same : (w : WriteResult) {o : Outcome} {n : ℕ} {tx : List ℕ} → SameSend w o n tx → history.sent o n tx ≡ as_answer (sent_by w)
-sent-same w s = by_test w.is_ok (λ t. rw (s.outcome, s.count, s.bytes, t) refl) (λ t. rw (s.outcome, s.count, s.bytes, t) refl)
+sent-same : (w : WriteResult) {t : Result ℕ Refusal} {tx : List ℕ} → SameSend w t tx → history.sent t tx ≡ as_answer (sent_by w)
+sent-same w s = by_test w.is_ok (λ t. rw (s.outcome, s.bytes, t) refl) (λ t. rw (s.outcome, s.bytes, t) refl)
 
 call_same : {l : PPPoS} {c : Call} {a : OurAnswer} {l' : PPPoS} → Called l c a l' → Kept l → (s : Answered) → call_of (view_link l) c ≡ returns s → SameCall a l' s
 call_same {l} (history.by_open c) k s e =
@@ -84,10 +86,10 @@ call_same {l} (history.by_open c) k s e =
 call_same {l} history.by_status k s e =
     let z : record { answer = history.showed (theirs.status_link (view_link l)); link = view_link l } ≡ s = cc in
     rw (← z) (record { answer = ap history.showed (same_link.status l k.lasting.plain); link = refl })
-call_same {l} (history.by_consume {bs} {rx} {o} {n} {l'} {rx'} b lent c) k s e =
-    let run = same_link.consume l rx bs k.lasting.plain k.lasting.crate_reading lent b c in
-    let z : record { answer = history.took n rx'; link = view_link l' } ≡ s = cc in
-    rw (← z) (record { answer = ap (λ (x : Outcome). history.took x n rx') run.0; link = refl })
+call_same {l} (history.by_consume {bs} {rx} {t} {l'} {rx'} b lent c) k s e =
+    let same = same_link.consume l rx bs k.lasting.plain k.lasting.crate_reading lent b c in
+    let z : record { answer = history.took (count_of t) rx'; link = view_link l' } ≡ s = cc in
+    rw (← z) (record { answer = ap (λ (x : Result ℕ Refusal). history.took x rx') same.0; link = refl })
 call_same {l} (history.by_poll {tx} {rx} {a} {l'} {tx'} {rx'} lent c) k s e = go (theirs.poll (view_link l) tx rx) refl
   where
     go : (x : Run theirs.Poll) → theirs.poll (view_link l) tx rx ≡ x → SameCall (history.acted a tx' rx') l' s
@@ -130,7 +132,7 @@ calls_same (next {l} {c} {a} {m} {cs} {xs} {n} one rest) k r e = go (λ q f. cal
     go others (panics place) f = apart cc
 
 histories_same : {name password : List ℕ} {cs : List Call} {xs : List OurAnswer} {l : PPPoS} → (h : History name password cs xs l) → {r : Ran} → run_of name password cs ≡ returns r
-    → (h.outcome ≡ Done) × (xs ≡ map as_answer r.answers) × (view_link l ≡ r.link)
+    → (h.outcome ≡ Ok tt) × (xs ≡ map as_answer r.answers) × (view_link l ≡ r.link)
 histories_same {name} {password} {cs} h {r} e =
     let new = same_link.new name password h.choices h.plain h.crate_reading h.fits h.new in
     let run = calls_same h.calls (fresh_kept h) r (sym (ap (λ (x : Run theirs.PPPoS). x >>= λ m. calls_of m cs) new.1) ∙ e) in

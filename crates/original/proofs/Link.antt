@@ -8,13 +8,13 @@ use native.Mathlib.Omega.{arith}
 use borrow.Author.Tests.{le-leb, lt-leb, lt-ltb, le-ltb, eqb-true}
 use lib.Dec.{eqb}
 use lib.ListN.{length, take, drop}
+use Rattle.std.specs.Prelude.{Err}
 use Rattle.laws.proofs.Cases.{by_le, by_test}
 use Rattle.framing.specs.Reader.{is_complete, fetched, Framed}
 use Rattle.options.specs.Wire.{protocol_in}
 use Rattle.phases.specs.Phases.{received_of}
 use Rattle.phases.proofs.Sounds.{ready}
 use Rattle.options.specs.declared.refusal.Refusal.TheVariants.{PacketShort}
-use Rattle.options.specs.declared.refusal.Outcome.TheVariants.{Refused}
 use Rattle.link.specs.Frames.{frames}
 use Rattle.link.specs.Link as ours
 use Rattle.link.specs.declared.pppos.PPPoS.{PPPoS}
@@ -84,7 +84,7 @@ module _ (l : PPPoS) (tx rx : List ℕ) (d : InDomain l rx) (framed : Framed l.f
         (received-same l tx rx (lasting_held d.lasting) d.lent.bytes d.lasting.crate_reading to least most h t other)))
         (λ h.
         let short : theirs.poll (view_link l) tx rx ≡ panics poll_slice = poll_is (view_link l) tx rx {x = panics poll_slice} (come ∙ rw (lt-ltb (length pkt) 2 h) refl) in
-        let no : (received_of l.ppp pkt).outcome ≡ Refused PacketShort = rw (lt-ltb (length pkt) 2 h) refl in
+        let no : (received_of l.ppp pkt).outcome ≡ Err PacketShort = rw (lt-ltb (length pkt) 2 h) refl in
         rw (short, mine, lt-leb 2 (length pkt) h, refused_is l (fetched l.frame_reader) tx rx pkt no) (refuses (dropped PacketShort (refused_at PacketShort refl) refl)))
 
   pub same-poll : Goal

@@ -9,10 +9,11 @@ use native.Mathlib.Nat.{sub_self}
 use borrow.Author.Tests.{lt-ltb, le-ltb, ne_eqb}
 use lib.Dec.{ltb, eqb, lit<}
 use lib.ListN.{length, get_or}
+use Rattle.std.specs.Prelude.{Result, Err}
 use Rattle.laws.proofs.Cases.{apart, by_le, cond_all}
 use Rattle.framing.specs.Reader as reader
+use Rattle.framing.specs.Refusal as frame_refusal
 use Rattle.framing.specs.declared.frame_reader.FrameReader.{FrameReader}
-use Rattle.framing.specs.declared.frame_reader.Got.{Got}
 use Rattle.framing.specs.declared.frame_reader.State.TheVariants as reading
 use Rattle.framing.specs.declared.refusal.Refusal.TheVariants.{BufferShort}
 use Rattle.framing.proofs.Reader.{consumed_short}
@@ -23,8 +24,7 @@ use Rattle.link.specs.Link.{held_by, Consumes, Poll, declined, poll_link}
 use Rattle.link.specs.Reached.{Reached}
 use Rattle.link.specs.Refusal.{outcome_number}
 use Rattle.link.specs.declared.refusal.Refusal.TheVariants.{Framing}
-use Rattle.link.specs.declared.refusal.Outcome.{Outcome}
-use Rattle.link.specs.declared.refusal.Outcome.TheVariants.{Refused}
+use Rattle.link.specs.declared.refusal.Refusal as link_refusal
 use Rattle.link.specs.declared.choices.Choices.{Choices}
 use Rattle.link.specs.declared.pppos.PPPoS.{PPPoS}
 use Rattle.link.specs.declared.pppos.PPPoSAction.{PPPoSAction}
@@ -46,8 +46,8 @@ use Rattle.original.proofs.History.{history_kept, history_reached, same-history}
 
 -- ---- the reader
 
-unfetched : {r r' : FrameReader} {g : Got} → reader.Receives r g r' → reader.is_complete r.state ≡ true → r.len < 3
-    → (reader.got_number g ≡ number_at reader_len) × (receive (view_reader r) ≡ cond (ltb r.len 2) (panics reader_len) (returns (range 1 0 (view_reader r'))))
+unfetched : {r r' : FrameReader} {g : reader.Got} → reader.Receives r g r' → reader.is_complete r.state ≡ true → r.len < 3
+    → (frame_refusal.outcome_number g ≡ number_at reader_len) × (receive (view_reader r) ≡ cond (ltb r.len 2) (panics reader_len) (returns (range 1 0 (view_reader r'))))
 unfolding receive
 unfetched {r} {r'} c e h = (
   c.number ∙ rw (e, lt-ltb r.len 3 h) refl,
@@ -99,12 +99,12 @@ consume_checks i r buf (b ∷ bs) =
 checked : {A : Type 0} {x : Run A} → Checks x → (p : Place) → x ≡ panics p → p ≡ reader_slice
 checked c p e = rw e at c
 
-short_consume : (l : PPPoS) (rx bs : List ℕ) → length rx < l.frame_reader.len → {o : Outcome} {n : ℕ} {l' : PPPoS} {rx' : List ℕ} → Consumes l rx bs o n l' rx'
-    → (o ≡ Refused (Framing BufferShort)) × (n ≡ 0) × (l' ≡ l) × (rx' ≡ rx)
-    × ((place : Place) → theirs.consume_link (view_link l) bs rx ≡ panics place → (place ≡ reader_slice) × (outcome_number o ≡ number_at place))
-short_consume l rx bs h {o} c =
+short_consume : (l : PPPoS) (rx bs : List ℕ) → length rx < l.frame_reader.len → {t : Result ℕ link_refusal.Refusal} {l' : PPPoS} {rx' : List ℕ} → Consumes l rx bs t l' rx'
+    → (t ≡ Err (Framing BufferShort)) × (frame_refusal.count_of t ≡ 0) × (l' ≡ l) × (rx' ≡ rx)
+    × ((place : Place) → theirs.consume_link (view_link l) bs rx ≡ panics place → (place ≡ reader_slice) × (outcome_number t ≡ number_at place))
+short_consume l rx bs h {t} c =
     let e = consumed_short (held_by l rx) bs h in
-    let refused : o ≡ Refused (Framing BufferShort) = c.outcome ∙ rw (lt-ltb (length rx) l.frame_reader.len h) refl in
+    let refused : t ≡ Err (Framing BufferShort) = c.outcome ∙ rw (lt-ltb (length rx) l.frame_reader.len h) refl in
     (refused, c.count ∙ rw (e, sub_self) refl, c.link ∙ rw e refl, c.bytes ∙ rw e refl, λ p k. let at : p ≡ reader_slice = checked (all l rx bs) p k in (at, ap outcome_number refused ∙ sym (ap number_at at)))
   where
     all : (l : PPPoS) (rx bs : List ℕ) → Checks (theirs.consume_link (view_link l) bs rx)
@@ -125,7 +125,7 @@ first_panic {l} h {r} run {c} {a} {l'} call {place} e =
     let here : call_of (view_link l) c ≡ panics place = ap (λ (m : theirs.PPPoS). call_of m c) (same-history.same h run).2 ∙ e in
     by_call call here
   where
-    polled : {tx rx : List ℕ} {a : PPPoSAction} {l' : PPPoS} {tx' rx' : List ℕ} (x : Run theirs.Poll) → SamePoll l tx rx x (record { action = a; link = l'; tx = tx'; rx = rx' })
+    polled : {tx rx : List ℕ} {a : Result PPPoSAction link_refusal.Refusal} {l' : PPPoS} {tx' rx' : List ℕ} (x : Run theirs.Poll) → SamePoll l tx rx x (record { action = a; link = l'; tx = tx'; rx = rx' })
         → ◌>>=◌ {B = Answered} x (λ p. returns (record { answer = history.acted p.action p.tx p.rx; link = p.link })) ≡ panics place → Stopped l place (history.polls tx rx) (history.acted a tx' rx') l'
     polled x (same s) e = apart cc
     polled x (refuses {place = p} s) e = let z : p ≡ place = cc in stopped (rw z at s)

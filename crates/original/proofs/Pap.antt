@@ -8,6 +8,7 @@ use native.Mathlib.Nat.{mod-lt, mod-eq_of_lt}
 use native.Mathlib.Omega.{arith}
 use lib.Dec.{ltb, eqb, lit<, lit≤}
 use lib.ListN.{length, drop, get_or, length-append}
+use Rattle.std.specs.Prelude.{Ok}
 use Rattle.laws.specs.Each.{Bytes}
 use Rattle.laws.proofs.Cases.{cond_both}
 use Rattle.negotiation.specs.Credentials.{name_len, password_len, name_of, password_of}
@@ -15,7 +16,6 @@ use Rattle.negotiation.specs.Pap as ours
 use Rattle.negotiation.specs.Auth.{auth_after, AuthReaction, by_pap, auth_handle_of}
 use Rattle.options.specs.Wire.{length_field}
 use Rattle.options.specs.declared.refusal.Refusal.TheVariants.{PapPast}
-use Rattle.options.specs.declared.refusal.Outcome.TheVariants.{Done}
 use Rattle.negotiation.specs.declared.auth.Auth as auth
 use Rattle.negotiation.specs.declared.pap.PapState as pap_state
 use Rattle.negotiation.proofs.CredentialLaws.{credentials_short}
@@ -37,7 +37,7 @@ pub record Held (a : auth.Auth) : Type 0 where
 
 -- both leave the same and send the same, or the original panics where ours refuses
 pub data SamePap : Run theirs.PapHandled → AuthReaction → Type 0 where
-  same : {h : theirs.PapHandled} {t : AuthReaction} → h.pap ≡ view_pap t.auth → Held t.auth → t.outcome ≡ Done → Carried h.tx t.sent → SamePap (returns h) t
+  same : {h : theirs.PapHandled} {t : AuthReaction} → h.pap ≡ view_pap t.auth → Held t.auth → t.outcome ≡ Ok tt → Carried h.tx t.sent → SamePap (returns h) t
   stops : {p : Place} {t : AuthReaction} → RefusedAt p t.outcome → SamePap (panics p) t
 
 sent_is : (s : pap_state.PapState) → theirs.is_pap_sent (view_pap_state s) ≡ ours.is_pap_sent s

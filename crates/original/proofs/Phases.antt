@@ -3,10 +3,9 @@
 use mathlib.Core.Path.{◌≡◌, refl}
 use mathlib.Core.Bool.{Bool, true, false}
 use mathlib.Core.List.{[], ◌∷◌}
-use Prim.Native.Nat.{ℕ, ◌+◌, ◌<◌}
-use native.Mathlib.Nat.{mod-lt}
-use lib.Dec.{lit<}
+use Prim.Native.Nat.{ℕ, ◌<◌}
 use Rattle.laws.proofs.Cases.{apart, by_test}
+use Rattle.negotiation.proofs.Lengths.{next_small}
 use Rattle.negotiation.specs.Messages.{next_id}
 use Rattle.negotiation.specs.Automaton.{is_closed, is_opened, requested, opened_fsm}
 use Rattle.negotiation.specs.Pap.{opened_pap, pap_requested, with_pap_state, stepped_pap}
@@ -42,9 +41,6 @@ use Rattle.original.proofs.Opening.{Steps, SamePhase, same, asserts, lcp_packet,
 
 abbrev at : Phase → Bool → ℕ → State → lcp.Lcp → authentication.Auth → ℕ → State → ipv4cp.Ipv4cp → ppp.Ppp
 at f o i s x c j t y = record { phase = f; opening = o; lcp = record { id = i; state = s; proto = x }; auth = c; ipv4cp = record { id = j; state = t; proto = y } }
-
-next_small : (i : ℕ) → next_id i < 256
-next_small i = mod-lt (i + 1) {m = 256} (lit< tt)
 
 module _ (o : Bool) (i : ℕ) (s : State) (x : lcp.Lcp) (c : authentication.Auth) (j : ℕ) (y : ipv4cp.Ipv4cp) (hi : i < 256) (hc : credentials.Held c) (hj : j < 256) where
   any_held : (f : Phase) (o : Bool) (i j : ℕ) (s t : State) (x : lcp.Lcp) (y : ipv4cp.Ipv4cp) → i < 256 → j < 256 → Held (at f o i s x c j t y)

@@ -9,12 +9,12 @@ use borrow.Author.Tests.{le-leb, lt-leb}
 use lib.Dec.{eqb}
 use lib.ListN.{length, drop, length-append}
 use lib.Seq.{sets, length-sets}
+use Rattle.std.specs.Prelude.{Ok}
 use Rattle.laws.proofs.Cases.{by_le, by_test}
 use Rattle.laws.proofs.Stores.{sets_append, sets_front}
 use Rattle.framing.specs.declared.frame_reader.Reading.TheVariants.{Crate}
 use Rattle.framing.specs.declared.frame_reader.FrameReader.{FrameReader}
 use Rattle.phases.specs.Phases.{Turn, phase_of}
-use Rattle.options.specs.declared.refusal.Outcome.TheVariants.{Done}
 use Rattle.phases.specs.declared.ppp.Ppp.{Ppp}
 use Rattle.phases.proofs.Phasing.{phase_sends}
 use Rattle.phases.proofs.Sounds.{Ready}
@@ -52,7 +52,7 @@ rest_stops m w b e = rw e refl
 -- the frames of pre are written; q is the record before the phase step, and r the reader
 module _ (l : PPPoS) (tx rx : List ℕ) (r : FrameReader) (q : Ppp) (held : Held q) (ready : (k : Choices) → Reached k l → Ready q) (pre : List (List ℕ)) (e : Bool) (c : ℕ) (fits : length (frames pre) ≤ length tx) (crate : r.reading ≡ Crate) where
   abbrev turn : Turn
-  turn = record { outcome = Done; echoed = e; ppp = (phase_of q).ppp; sent = pre ++ (phase_of q).sent }
+  turn = record { outcome = Ok tt; echoed = e; ppp = (phase_of q).ppp; sent = pre ++ (phase_of q).sent }
 
   abbrev w : FrameWriter
   w = poll_writer (sets tx 0 (frames pre)) (length (frames pre)) c
@@ -68,7 +68,7 @@ module _ (l : PPPoS) (tx rx : List ℕ) (r : FrameReader) (q : Ppp) (held : Held
       let link : view_link (ours.link_of r (phase_of q).ppp) ≡ record { frame_reader = view_reader r; ppp = s.ppp } = ap (λ (x : ppp.Ppp). record { frame_reader = view_reader r; ppp = x }) (sym steps.ppp) in
       rw (run, transmit_all_lem (sets tx 0 f) (length f) c steps.carried (phase_sends q).short (rw size fits), size, frames-append pre (phase_of q).sent, length-append f g)
       (by_le (length f + length g) (length tx)
-      (λ h. rw (le-leb (length f + length g) (length tx) h) (same (record { action = sent_is (length f + length g); link = link; crate_reading = crate; transmit = written f g h; receive = refl })))
+      (λ h. rw (le-leb (length f + length g) (length tx) h) (same (record { action = ap Ok (sent_is (length f + length g)); link = link; crate_reading = crate; transmit = written f g h; receive = refl })))
       (λ h. rw (lt-leb (length f + length g) (length tx) h) (refuses (full refl refl))))
     where
       written : (f g : List ℕ) → length f + length g ≤ length tx → (f ++ g) ++ drop (length f + length g) tx ≡ sets (sets tx 0 f) (length f) g

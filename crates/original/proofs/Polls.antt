@@ -10,6 +10,7 @@ use borrow.Author.Tests.{le-leb, lt-leb, lt-ltb}
 use lib.Dec.{eqb}
 use lib.ListN.{length, take, drop, set, length-append, take-append-drop}
 use lib.Seq.{sets, set-append_left}
+use Rattle.std.specs.Prelude.{Ok, Err}
 use Rattle.laws.specs.Each.{Bytes}
 use Rattle.laws.proofs.Cases.{by_le, by_test}
 use Rattle.framing.specs.Reader.{fetched}
@@ -19,7 +20,6 @@ use Rattle.options.specs.Wire.{max_packet, protocol_in}
 use Rattle.phases.specs.Phases.{Turn, phase_of, turn_of, received_of}
 use Rattle.options.specs.declared.refusal.Refusal.{Refusal}
 use Rattle.options.specs.declared.refusal.Refusal.TheVariants.{ReplyLong}
-use Rattle.options.specs.declared.refusal.Outcome.TheVariants.{Done, Refused}
 use Rattle.phases.proofs.Phasing.{turn_refused_lem, turn_done, received_sends}
 use Rattle.phases.proofs.Sounds.{ready_received}
 use Rattle.link.specs.Frames.{frames}
@@ -63,7 +63,7 @@ other_protocols l w from to rx pkt n other =
     (λ t. rw t (by_test (eqb n 0xC023) (λ u. rw u refl) (λ u. rw (u, other) (by_test (eqb n 0x8021) (λ v. rw v refl) (λ v. rw v refl)))))
 
 -- what our packet's poll comes to where the packet is refused
-pub refused_is : (l : PPPoS) (r : FrameReader) (tx rx pkt : List ℕ) {why : Refusal} → (received_of l.ppp pkt).outcome ≡ Refused why
+pub refused_is : (l : PPPoS) (r : FrameReader) (tx rx pkt : List ℕ) {why : Refusal} → (received_of l.ppp pkt).outcome ≡ Err why
     → ours.answered_poll l r (turn_of l.ppp pkt) tx rx ≡ ours.declined (Negotiation why) (ours.link_of r l.ppp) tx rx
 unfolding ours.answered_poll
 refused_is l r tx rx pkt e = rw (turn_refused_lem l.ppp pkt e) refl
@@ -100,7 +100,7 @@ module _ (l : PPPoS) (tx rx : List ℕ) (held : received.Held l.ppp) (bytes : By
       stopped place e = poll_is (view_link l) tx rx {x = panics place} (come ∙ rw (run, e) refl)
 
       -- the replies, then the rest
-      replies : r.ppp ≡ view_ppp t.ppp → received.Held t.ppp → t.outcome ≡ Done
+      replies : r.ppp ≡ view_ppp t.ppp → received.Held t.ppp → t.outcome ≡ Ok tt
           → r.pkt ≡ cond t.echoed (set pkt 2 10) pkt → (t.echoed ≡ true → 2 < length pkt) → Carried r.tx t.sent → Goal
       unfolding ours.answered_poll
       replies a h o d k c =
@@ -121,7 +121,7 @@ module _ (l : PPPoS) (tx rx : List ℕ) (held : received.Held l.ppp) (bytes : By
           rw (stopped reply_full none, turn_done l.ppp pkt o, frames-append t.sent (phase_of t.ppp).sent, length-append f g, lt-leb (length f + length g) (length tx) (omega arith)) (refuses (full refl refl)))
 
       -- a packet above 128 bytes
-      too_long : (q : Packet) → r.tx ≡ q ∷ [] → max_packet < packet_len q → t.outcome ≡ Refused ReplyLong → Goal
+      too_long : (q : Packet) → r.tx ≡ q ∷ [] → max_packet < packet_len q → t.outcome ≡ Err ReplyLong → Goal
       unfolding theirs.transmit_all theirs.transmit
       too_long q e h o =
           let long : theirs.transmit_all (new_writer tx) r.tx ≡ panics reply_long = rw (e, lt-ltb max_packet (packet_len q) h) refl in

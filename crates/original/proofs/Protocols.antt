@@ -42,7 +42,7 @@ own_lcp_lem p =
     (λ t. rw t (record { opts = record { code = 2; value = be_bytes 4 p.asyncmap } ∷ []; pushed = rw (length_be 4 p.asyncmap) refl; lists = one_more 2 p.asyncmap (lit< tt) lists_none }))
 
 lcp_theirs : (p : lcp.Lcp) (c : ℕ) (d : List ℕ)
-    → lcp_received (view_lcp p) c d ≡ (view_verdict (ours.suggestion_lcp p) (ours.judge_lcp p c d).verdict, view_lcp (ours.judge_lcp p c d).lcp)
+    → lcp_received (view_lcp p) c d ≡ (view_verdict (ours.suggestion_lcp p) (ours.judge_lcp p c d).verdict, view_lcp (ours.judge_lcp p c d).proto)
 unfolding ours.suggestion_lcp
 lcp_theirs p c d =
     by_test (eqb c 2)
@@ -61,7 +61,7 @@ lcp_stands =
       start_ours = λ x. refl;
       start_theirs = λ x. refl;
       verdict = λ x c d. (ours.judge_lcp x c d).verdict;
-      judged = λ x c d. (ours.judge_lcp x c d).lcp;
+      judged = λ x c d. (ours.judge_lcp x c d).proto;
       judge_ours = λ x c d. refl;
       judge_theirs = lcp_theirs;
       nacked = ours.lcp_nacked;
@@ -114,7 +114,7 @@ ip_theirs o d true = refl
 ip_theirs o d false = by_test (eqb (length d) 4) (λ t. rw t refl) (λ t. rw t refl)
 
 ipv4cp_theirs : (p : ipv4cp.Ipv4cp) (c : ℕ) (d : List ℕ)
-    → ipv4cp_received (view_ipv4cp p) c d ≡ (view_verdict [] (ours4.judge_ipv4cp p c d).verdict, view_ipv4cp (ours4.judge_ipv4cp p c d).ipv4cp)
+    → ipv4cp_received (view_ipv4cp p) c d ≡ (view_verdict [] (ours4.judge_ipv4cp p c d).verdict, view_ipv4cp (ours4.judge_ipv4cp p c d).proto)
 ipv4cp_theirs p c d =
     by_test (eqb c 3) (λ t. rw t (by_test (eqb (length d) 4) (λ u. rw u refl) (λ u. rw u refl))) (λ t. rw t refl)
 
@@ -136,7 +136,7 @@ ipv4cp_stands =
       start_ours = λ x. refl;
       start_theirs = λ x. refl;
       verdict = λ x c d. (ours4.judge_ipv4cp x c d).verdict;
-      judged = λ x c d. (ours4.judge_ipv4cp x c d).ipv4cp;
+      judged = λ x c d. (ours4.judge_ipv4cp x c d).proto;
       judge_ours = λ x c d. refl;
       judge_theirs = ipv4cp_theirs;
       nacked = ours4.ipv4cp_nacked;

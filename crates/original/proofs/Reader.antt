@@ -10,18 +10,17 @@ use lib.Bits.{bit_xor, xor_lt}
 use lib.Dec.{ltb, leb, eqb, lit<}
 use lib.ListN.{length, get_or, take, length-take}
 use lib.Seq.{get_or-take}
+use Rattle.std.specs.Prelude.{None, Some, Result, Ok}
 use Rattle.laws.specs.Each.{Bytes}
 use Rattle.laws.proofs.Cases.{by_le, by_test, cond_all}
-use Rattle.framing.specs.Refusal.{outcome_number}
+use Rattle.framing.specs.Refusal.{outcome_number, count_of}
 use Rattle.framing.specs.Reader as ours
 use Rattle.framing.specs.declared.frame_reader.State as reading
 use Rattle.framing.specs.declared.frame_reader.Reading.{Reading}
 use Rattle.framing.specs.declared.frame_reader.Reading.TheVariants.{Crate}
 use Rattle.framing.specs.declared.frame_reader.FrameReader as reader
-use Rattle.framing.specs.declared.drops.Fault.TheVariants.{None, Short, Control, Check}
-use Rattle.framing.specs.declared.frame_reader.Got.{Got}
-use Rattle.framing.specs.declared.frame_reader.Got.TheVariants.{Packet, Nothing}
-use Rattle.framing.specs.declared.refusal.Outcome.{Outcome}
+use Rattle.framing.specs.declared.drops.Fault.TheVariants.{Short, Control, Check}
+use Rattle.framing.specs.declared.refusal.Refusal.{Refusal}
 use Rattle.framing.proofs.OneAnswer.{gots_differ}
 use Rattle.framing.proofs.Reader.{Kept, step_kept, fed_left_le, consumed-fed, receives_done}
 use Rattle.framing.proofs.SameReading.{step_reading, fed_reading}
@@ -54,7 +53,7 @@ module _ (r : reader.FrameReader) (buf : List ℕ) (within : r.len ≤ length bu
 
   -- the three tests, with the crate's check value
   fault_is : ours.fault_of r buf
-      ≡ cond (ltb r.len 3) Short (cond (not (eqb (get_or (take r.len buf) 0 0) 0x03)) Control (cond (not (eqb (crc16 0x00FF (take r.len buf)) 0xF0B8)) Check None))
+      ≡ cond (ltb r.len 3) (Some Short) (cond (not (eqb (get_or (take r.len buf) 0 0) 0x03)) (Some Control) (cond (not (eqb (crc16 0x00FF (take r.len buf)) 0xF0B8)) (Some Check) None))
   unfolding ours.fault_in
   fault_is = rw (unaborted, kept_length, same-crc16 0x00FF (take r.len buf) (each_take (λ b. b < 256) r.len buf bytes)) refl
 
@@ -76,7 +75,7 @@ module _ (r : reader.FrameReader) (buf : List ℕ) (within : r.len ≤ length bu
 
       go : (s t : Bool)
           → cond (not s) (fed_to Address (view_reader r) buf) (fed_to (cond t Complete Address) (view_reader r) buf)
-          ≡ returns (fed_of (ours.held (cond (ours.is_good (cond (not s) Control (cond (not t) Check None))) (left reading.TheVariants.Complete) (left reading.TheVariants.Address)) buf))
+          ≡ returns (fed_of (ours.held (cond (ours.is_good (cond (not s) (Some Control) (cond (not t) (Some Check) None))) (left reading.TheVariants.Complete) (left reading.TheVariants.Address)) buf))
       go true true = by_test r.escape (λ e. rw e refl) (λ e. rw e refl)
       go true false = stay r.escape
       go false t = stay r.escape
@@ -159,8 +158,8 @@ fed_is n i s (b ∷ bs) big p h =
 
 -- what our consume promises, in crate reading, is what the original does
 module _ (r : reader.FrameReader) (buf bs : List ℕ) (crate : r.reading ≡ Crate) (room : r.len ≤ length buf) (big : length buf < 2 ^ 64) (bytes : Bytes buf) (given : Bytes bs) where
-  pub same-consume : {o : Outcome} {k : ℕ} {r' : reader.FrameReader} {buf' : List ℕ} → ours.Consumes (ours.held r buf) bs o k r' buf'
-      → (outcome_number o ≡ 0) × (consume (view_reader r) buf bs ≡ returns (record { count = k; reader = view_reader r'; buf = buf' })) × (r'.reading ≡ Crate)
+  pub same-consume : {t : Result ℕ Refusal} {r' : reader.FrameReader} {buf' : List ℕ} → ours.Consumes (ours.held r buf) bs t r' buf'
+      → (outcome_number t ≡ 0) × (consume (view_reader r) buf bs ≡ returns (record { count = count_of t; reader = view_reader r'; buf = buf' })) × (r'.reading ≡ Crate)
   same-consume c =
       let steady : Steady (length buf) (ours.held r buf) = record { kept = record { room = refl; within = room }; crate_reading = crate; bytes = bytes } in
       let now = consumed-fed (ours.held r buf) bs room in (
@@ -178,17 +177,18 @@ receive_is r h =
     rw (complete_is r.state)
     (by_test (ours.is_complete r.state) (λ t. rw (t, le-ltb r.len 2 (omega (arith, h t))) refl) (λ t. rw t refl))
 
-pub same-receive : {r r' : reader.FrameReader} {g : Got} → ours.Receives r g r' → ours.Framed r
-    → (ours.got_number g ≡ 0) × (receive (view_reader r) ≡ returns (fetch_of g (view_reader r'))) × (r'.reading ≡ r.reading)
+pub same-receive : {r r' : reader.FrameReader} {g : ours.Got} → ours.Receives r g r' → ours.Framed r
+    → (outcome_number g ≡ 0) × (receive (view_reader r) ≡ returns (fetch_of g (view_reader r'))) × (r'.reading ≡ r.reading)
 same-receive {r} {r'} {g} c h = (
   receives_done h c,
   receive_is r h
       ∙ by_test (ours.is_complete r.state)
       (λ t.
-      let k : g ≡ Packet 1 (r.len - 2) = gots_differ g (Packet 1 (r.len - 2)) (c.number ∙ rw (t, le-ltb r.len 3 (h t)) refl) (c.range ∙ rw (t, le-leb 3 r.len (h t)) refl) in
+      let p : ours.Got = Ok (Some (record { start = 1; end = r.len - 2 })) in
+      let k : g ≡ p = gots_differ g p (c.number ∙ rw (t, le-ltb r.len 3 (h t)) refl) (c.range ∙ rw (t, le-leb 3 r.len (h t)) refl) in
       rw (t, k, c.reader, t) refl)
       (λ t.
-      let k : g ≡ Nothing = gots_differ g Nothing (c.number ∙ rw t refl) (c.range ∙ rw t refl) in
+      let k : g ≡ Ok None = gots_differ g (Ok None) (c.number ∙ rw t refl) (c.range ∙ rw t refl) in
       rw (t, k, c.reader, t) refl),
   rw c.reader (cond_all (λ (x : reader.FrameReader). x.reading ≡ r.reading) (ours.is_complete r.state) refl refl),
 )

@@ -9,6 +9,7 @@ use native.Mathlib.Omega.{arith}
 use borrow.Author.Tests.{ltb-true, ltb-false}
 use lib.Dec.{ltb, eqb, lit<}
 use lib.ListN.{length, set}
+use Rattle.std.specs.Prelude.{Ok, Err}
 use Rattle.laws.specs.Each.{Bytes}
 use Rattle.laws.proofs.Cases.{by_test, cond_both}
 use Rattle.negotiation.specs.Messages.{max_rejected, next_id}
@@ -18,7 +19,6 @@ use Rattle.options.specs.Wire.{max_packet, protocol_in}
 use Rattle.negotiation.specs.Automaton.{protocol_reject_of}
 use Rattle.phases.specs.Phases.{Turn, from_lcp, from_ipv4cp, reject_of, received_of, from_auth}
 use Rattle.options.specs.declared.refusal.Refusal.TheVariants.{ReplyLong}
-use Rattle.options.specs.declared.refusal.Outcome.TheVariants.{Done, Refused}
 use Rattle.options.specs.declared.proto.Proto.TheVariants as proto
 use Rattle.phases.specs.declared.ppp.Ppp as ppp
 use Rattle.original.specs.Run.{Place, Run, returns, panics, ◌>>=◌}
@@ -43,9 +43,9 @@ pub record Held (p : ppp.Ppp) : Type 0 where
 
 -- both leave the same and send the same; or the original gives a packet above 128 bytes, or panics, where ours refuses
 pub data SameReceived (pkt : List ℕ) : Run theirs.Received → Turn → Type 0 where
-  same : {r : theirs.Received} {t : Turn} → r.ppp ≡ view_ppp t.ppp → Held t.ppp → t.outcome ≡ Done
+  same : {r : theirs.Received} {t : Turn} → r.ppp ≡ view_ppp t.ppp → Held t.ppp → t.outcome ≡ Ok tt
       → r.pkt ≡ cond t.echoed (set pkt 2 10) pkt → (t.echoed ≡ true → 2 < length pkt) → Carried r.tx t.sent → SameReceived pkt (returns r) t
-  long : {r : theirs.Received} {t : Turn} (q : Packet) → r.tx ≡ q ∷ [] → max_packet < packet_len q → t.outcome ≡ Refused ReplyLong → SameReceived pkt (returns r) t
+  long : {r : theirs.Received} {t : Turn} (q : Packet) → r.tx ≡ q ∷ [] → max_packet < packet_len q → t.outcome ≡ Err ReplyLong → SameReceived pkt (returns r) t
   stops : {p : Place} {t : Turn} → RefusedAt p t.outcome → SameReceived pkt (panics p) t
 
 module _ (p : ppp.Ppp) (held : Held p) (pkt : List ℕ) where

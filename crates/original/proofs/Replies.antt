@@ -8,6 +8,7 @@ use native.Mathlib.Omega.{arith}
 use borrow.Author.Tests.{lt-ltb, le-ltb, le-leb, lt-leb, eq-eqb, ne_eqb}
 use lib.Dec.{lit≤}
 use lib.ListN.{length, length-append}
+use Rattle.std.specs.Prelude.{Ok}
 use Rattle.laws.specs.Each.{Bytes}
 use Rattle.laws.proofs.Cases.{by_le}
 use Rattle.options.specs.Refusal.{is_done}
@@ -17,7 +18,6 @@ use Rattle.options.specs.Proto.{protocol_of, start_of, judge_of, own_of, own_nac
 use Rattle.options.specs.Reply.{rank_of, listed_of, step_of, reply_of}
 use Rattle.negotiation.specs.Messages.{code_of}
 use Rattle.options.specs.declared.refusal.Refusal.TheVariants.{OptionCut, OptionLong, OptionsMany}
-use Rattle.options.specs.declared.refusal.Outcome.TheVariants.{Done}
 use Rattle.options.specs.declared.proto.Proto.{Proto}
 use Rattle.options.specs.declared.proto.Verdict as verdict
 use Rattle.options.specs.declared.proto.Nacked.{Nacked}
@@ -78,7 +78,7 @@ module _ {X P : Type 0} (T : Protocol P) (inj : X → Proto) (view : X → P) (s
     pub code : a.code ≡ code_of r.verdict
     pub count : length a.opts ≡ r.count
     pub lists : Lists a.opts (content_of r.packet)
-    pub going : r.outcome ≡ Done
+    pub going : r.outcome ≡ Ok tt
     pub most : length a.opts ≤ 6
     pub room : length (content_of r.packet) ≤ 6 * length a.opts
 
@@ -172,7 +172,7 @@ module _ {X P : Type 0} (T : Protocol P) (inj : X → Proto) (view : X → P) (s
   -- ---- the options of a Nack or a Rej
 
   pub data SameNacks : Run P → Nacked → Type 0 where
-    nacked : (x : X) {n : Nacked} → n ≡ record { outcome = Done; proto = inj x } → SameNacks (returns (view x)) n
+    nacked : (x : X) {n : Nacked} → n ≡ record { outcome = Ok tt; proto = inj x } → SameNacks (returns (view x)) n
     refused : {p : Place} {n : Nacked} → RefusedAt p n.outcome → SameNacks (panics p) n
 
   pub nacks_same : (rej : Bool) (x : X) (w : Walk) → SameNacks (over (nack_option T rej) (view x) w >>= unwrap options_cut) (nacks_of rej (inj x) w)

@@ -8,10 +8,12 @@ use native.Mathlib.Omega.{arith}
 use borrow.Author.Tests.{lt-ltb, le-ltb}
 use lib.Dec.{ltb}
 use lib.ListN.{length}
+use Rattle.std.specs.Prelude.{Result}
 use Rattle.framing.specs.Reader.{is_complete, fetched, Framed}
 use Rattle.framing.specs.declared.frame_reader.FrameReader.{FrameReader}
 use Rattle.framing.specs.declared.refusal.Refusal.TheVariants.{FrameShort}
 use Rattle.link.specs.Link.{link_of, declined, poll_link, Polls}
+use Rattle.link.specs.declared.refusal.Refusal.{Refusal}
 use Rattle.link.specs.declared.refusal.Refusal.TheVariants.{Framing}
 use Rattle.link.specs.declared.pppos.PPPoS.{PPPoS}
 use Rattle.link.specs.declared.pppos.PPPoSAction.{PPPoSAction}
@@ -31,7 +33,7 @@ use Rattle.original.proofs.Calls.{new_fits, same_open, same-status, same_consume
 use Rattle.original.proofs.Link.{same-poll}
 use Rattle.original.proofs.Send.{same-send}
 
-pub polls_same : (l : PPPoS) (tx rx : List ℕ) → InDomain l rx → Framed l.frame_reader → {a : PPPoSAction} {l' : PPPoS} {tx' rx' : List ℕ} → Polls (poll_link l tx rx) a l' tx' rx'
+pub polls_same : (l : PPPoS) (tx rx : List ℕ) → InDomain l rx → Framed l.frame_reader → {a : Result PPPoSAction Refusal} {l' : PPPoS} {tx' rx' : List ℕ} → Polls (poll_link l tx rx) a l' tx' rx'
     → SamePoll l tx rx (theirs.poll (view_link l) tx rx) (record { action = a; link = l'; tx = tx'; rx = rx' })
 polls_same l tx rx d framed c = rw (c.action, c.link, c.transmit, c.receive) (same-poll l tx rx d framed)
 
@@ -52,7 +54,7 @@ pub by_framed : {P : Type 0} (r : FrameReader) → (Framed r → P) → (is_comp
 by_framed r f g = by_le 3 r.len (λ h. f (λ _. h)) (λ h. by_test (is_complete r.state) (λ t. g t h) (λ t. f (λ u. absurd (true≢false (sym u ∙ t)))))
 
 -- with under three bytes of a complete frame kept the original does not return
-polls_domain : (l : PPPoS) (tx rx : List ℕ) → InDomain l rx → {a : PPPoSAction} {l' : PPPoS} {tx' rx' : List ℕ} → Polls (poll_link l tx rx) a l' tx' rx'
+polls_domain : (l : PPPoS) (tx rx : List ℕ) → InDomain l rx → {a : Result PPPoSAction Refusal} {l' : PPPoS} {tx' rx' : List ℕ} → Polls (poll_link l tx rx) a l' tx' rx'
     → {o : theirs.Poll} → theirs.poll (view_link l) tx rx ≡ returns o → SamePolled o a l' tx' rx'
 polls_domain l tx rx d {a} {l'} {tx'} {rx'} c {o} e =
     by_framed l.frame_reader (λ framed. go (theirs.poll (view_link l) tx rx) e (polls_same l tx rx d framed c))

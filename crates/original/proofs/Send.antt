@@ -1,22 +1,24 @@
 -- send of pppos/mod.rs is ours.
 -- Assumes nothing.
-use mathlib.Core.Path.{◌≡◌, refl, sym, ◌∙◌}
-use mathlib.Core.Bool.{Bool, true, cond}
+use mathlib.Core.Path.{◌≡◌, refl, ap, sym, ◌∙◌}
+use mathlib.Core.Bool.{Bool, true, false, cond}
 use mathlib.Core.List.{List, [], ◌∷◌, ◌++◌, append_assoc}
 use Prim.Native.Nat.{ℕ}
 use lib.Dec.{lit<}
+use lib.ListN.{length}
+use Rattle.std.specs.Prelude.{Result, Ok, Err}
 use Rattle.laws.specs.Be.{be_bytes}
 use Rattle.laws.specs.Each.{Bytes}
 use Rattle.laws.proofs.Cases.{by_test, cond_ap}
-use Rattle.framing.specs.Refusal.{outcome_number}
-use Rattle.framing.specs.Rfc1662.{fcs}
+use Rattle.framing.specs.Refusal.{outcome_number, count_of}
+use Rattle.framing.specs.Rfc1662.{fcs, frame}
 use Rattle.framing.specs.Writer.{Out, write, Ran, units, start_units, finish_units, frame_units}
 use Rattle.framing.specs.declared.refusal.Refusal.TheVariants.{BufferFull}
-use Rattle.framing.specs.declared.refusal.Outcome.TheVariants.{Done, Refused}
 use Rattle.framing.proofs.Run.{run_then, run_stop, units-append}
 use Rattle.framing.proofs.Frame.{frame-done, encodes}
 use Rattle.link.specs.Link.{ip_frame, remote_map, Sends}
-use Rattle.link.specs.declared.refusal.Outcome.{Outcome}
+use Rattle.link.specs.declared.refusal.Refusal.{Refusal}
+use Rattle.link.specs.declared.refusal.Refusal.TheVariants.{Framing}
 use Rattle.link.specs.declared.pppos.PPPoS.{PPPoS}
 use Rattle.original.specs.Framing.{FrameWriter, new_with_asyncmap, WriteResult, try, append, finish}
 use Rattle.original.specs.Pppos.{send}
@@ -44,6 +46,10 @@ ran_try m k us vs buf at next h = go (write us buf at) refl
         let done : Ran us buf at o.bytes o.at o.done = record { same_bytes = cc; same_at = cc; same_done = cc } in
         by_test o.done (λ t. rw t (run_then done t (h o))) (λ t. let stop = rw t at (run_stop done t vs) in rw t stop)
 
+same_counts : (t : Bool) (n k : ℕ) (why : Refusal) → cond t k 0 ≡ cond t n 0 → ◌≡◌ {A = Result ℕ Refusal} (cond t (Ok n) (Err why)) (cond t (Ok k) (Err why))
+same_counts true n k why e = ap Ok (sym e)
+same_counts false n k why e = refl
+
 module _ (l : PPPoS) (pkt tx : List ℕ) (bytes : Bytes pkt) where
   abbrev m : ℕ
   m = remote_map l
@@ -64,9 +70,16 @@ module _ (l : PPPoS) (pkt tx : List ℕ) (bytes : Bytes pkt) where
       (ran_try m (λ t. cond t (fcs c pkt) c) (units m pkt) (finish_units m (fcs c pkt)) o.bytes o.at (λ w. finish w)
       (λ o. rw (finish_is (at_end m (fcs c pkt) o)) (record { same_bytes = refl; same_at = refl; same_done = refl })))))))
 
-  pub same-send : {o : Outcome} {n : ℕ} {tx' : List ℕ} → Sends l pkt tx o n tx' → SameSend (send (view_link l) pkt tx) o n tx'
+  pub same-send : {t : Result ℕ Refusal} {tx' : List ℕ} → Sends l pkt tx t tx' → SameSend (send (view_link l) pkt tx) t tx'
   same-send c =
       let r = send (view_link l) pkt tx in
       let done = frame-done m (ip_frame pkt) send_runs in
-      let e = encodes m (ip_frame pkt) send_runs {o = cond r.is_ok Done (Refused BufferFull)} {k = cond r.is_ok r.writer.len 0} (cond_ap outcome_number r.is_ok Done (Refused BufferFull)) refl in
-      record { outcome = rw done c.outcome; count = c.lays.count ∙ sym e.lays.count; bytes = c.lays.bytes ∙ sym e.lays.bytes }
+      let n = length (frame m (ip_frame pkt)) in
+      let counted = cond_ap count_of r.is_ok (Ok r.writer.len) (Err BufferFull) in
+      let e = encodes m (ip_frame pkt) send_runs {r = cond r.is_ok (Ok r.writer.len) (Err BufferFull)} (cond_ap outcome_number r.is_ok (Ok r.writer.len) (Err BufferFull)) counted in
+      let same : cond r.is_ok r.writer.len 0 ≡ cond r.is_ok n 0 = sym counted ∙ e.lays.count ∙ ap (λ (t : Bool). cond t n 0) (sym done) in
+      record {
+        outcome = rw done c.outcome ∙ same_counts r.is_ok n r.writer.len (Framing BufferFull) same;
+        count = c.lays.count ∙ sym e.lays.count ∙ counted;
+        bytes = c.lays.bytes ∙ sym e.lays.bytes;
+      }

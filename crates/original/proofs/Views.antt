@@ -12,13 +12,14 @@ use Rattle.framing.specs.declared.frame_reader.Reading.TheVariants.{Crate}
 use Rattle.negotiation.specs.Credentials.{name_len, password_len, name_of, password_of}
 use Rattle.negotiation.proofs.CredentialLaws.{sum_fits}
 use Rattle.negotiation.specs.declared.states.State as fsm
+use Rattle.negotiation.specs.declared.option_fsm.OptionFsm.{OptionFsm}
 use Rattle.options.specs.declared.lcp.AuthType as auth
+use Rattle.options.specs.declared.lcp.Lcp.{Lcp}
 use Rattle.options.specs.declared.ipv4cp.IpOption as ip
+use Rattle.options.specs.declared.ipv4cp.Ipv4cp.{Ipv4cp}
 use Rattle.negotiation.specs.declared.pap.PapState as pap_state
 use Rattle.negotiation.specs.declared.credentials.Credentials.{Credentials}
 use Rattle.phases.specs.declared.ppp.Phase as phase
-use Rattle.phases.specs.declared.ppp.LcpFsm as lcp_fsm
-use Rattle.phases.specs.declared.ppp.Ipv4cpFsm as ipv4cp_fsm
 use Rattle.link.specs.declared.pppos.PPPoS.{PPPoS}
 use Rattle.original.specs.Framing as framing
 use Rattle.original.specs.Fsm as automaton
@@ -97,7 +98,7 @@ reader_back r = record { state = reading_back r.state; escape = r.escape; len = 
 reader_back_lem : (x : reader.FrameReader) → x.reading ≡ Crate → reader_back (view_reader x) ≡ x
 reader_back_lem x e = rw (reading_back_lem x.state, ← e) refl
 
-abbrev lcp_back : automaton.OptionFsm protocols.Lcp → lcp_fsm.LcpFsm
+abbrev lcp_back : automaton.OptionFsm protocols.Lcp → OptionFsm Lcp
 lcp_back f =
     record {
       id = f.id;
@@ -105,13 +106,13 @@ lcp_back f =
       proto = record { auth = auth_back f.proto.auth; asyncmap_remote = f.proto.asyncmap_remote; asyncmap = f.proto.asyncmap; asyncmap_rej = f.proto.asyncmap_rej };
     }
 
-lcp_back_lem : (x : lcp_fsm.LcpFsm) → lcp_back (view_lcp_fsm x) ≡ x
+lcp_back_lem : (x : OptionFsm Lcp) → lcp_back (view_lcp_fsm x) ≡ x
 lcp_back_lem x = rw (state_back_lem x.state, auth_back_lem x.proto.auth) refl
 
 abbrev ip_back : protocols.IpOption → ip.IpOption
 ip_back o = record { address = o.address; is_rejected = o.is_rejected }
 
-abbrev ipv4cp_back : automaton.OptionFsm protocols.Ipv4cp → ipv4cp_fsm.Ipv4cpFsm
+abbrev ipv4cp_back : automaton.OptionFsm protocols.Ipv4cp → OptionFsm Ipv4cp
 ipv4cp_back f =
     record {
       id = f.id;
@@ -119,7 +120,7 @@ ipv4cp_back f =
       proto = record { peer_address = f.proto.peer_address; address = ip_back f.proto.address; dns_server_1 = ip_back f.proto.dns_server1; dns_server_2 = ip_back f.proto.dns_server2 };
     }
 
-ipv4cp_back_lem : (x : ipv4cp_fsm.Ipv4cpFsm) → ipv4cp_back (view_ipv4cp_fsm x) ≡ x
+ipv4cp_back_lem : (x : OptionFsm Ipv4cp) → ipv4cp_back (view_ipv4cp_fsm x) ≡ x
 ipv4cp_back_lem x = rw (state_back_lem x.state) refl
 
 -- ---- credentials

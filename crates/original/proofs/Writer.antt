@@ -10,11 +10,12 @@ use borrow.Author.Tests.{le-leb, lt-leb, lt-ltb, le-ltb, eq-eqb, ne_eqb}
 use lib.Bits.{bit_and, bit_xor, and_high}
 use lib.Dec.{eqb, lit<}
 use lib.ListN.{length}
+use Rattle.std.specs.Prelude.{Result}
 use Rattle.laws.specs.Each.{Bytes}
 use Rattle.laws.proofs.Cases.{by_le, by_test}
 use Rattle.framing.specs.Rfc1662.{escaped, unit, fcs, check_bytes}
 use Rattle.framing.specs.Writer.{Out, write, Ran, units, start_units, finish_units, Writes, Starts, Appends, Finishes}
-use Rattle.framing.specs.declared.refusal.Outcome.{Outcome}
+use Rattle.framing.specs.declared.refusal.Refusal.{Refusal}
 use Rattle.framing.specs.declared.frame_writer.FrameWriter as ours
 use Rattle.framing.proofs.Run.{run_next, run_stop}
 use Rattle.original.specs.Crc.{crc16}
@@ -139,7 +140,7 @@ append_is w bs h = rw (escaped_is w bs) (go (write (units w.asyncmap bs) w.buf w
     go o = by_test o.done (λ t. rw (t, same-crc16 w.crc bs h) refl) (λ t. rw t refl)
 
 -- what our calls promise is what the original does
-same_write : {us : List (List ℕ)} {full crc : ℕ} {w w' : ours.FrameWriter} {buf buf' : List ℕ} {o : Outcome} {r : WriteResult} → w.len ≤ length buf
+same_write : {us : List (List ℕ)} {full crc : ℕ} {w w' : ours.FrameWriter} {buf buf' : List ℕ} {o : Result Unit Refusal} {r : WriteResult} → w.len ≤ length buf
     → Writes us full crc w buf o w' buf'
     → r ≡ out_in (with_crc (view_writer w buf) (cond (write us buf w.len).done crc full)) (write us buf w.len)
     → SameWrite r o w' buf'
@@ -150,7 +151,7 @@ same_write {us} {full} {crc} {w} {w'} {buf} h c e =
       writer = rw (rw l at c.writer, rw l at c.bytes) (sym (ap (λ (x : WriteResult). x.writer) e));
     }
 
-module _ (w : ours.FrameWriter) (buf : List ℕ) (room : w.len ≤ length buf) {o : Outcome} {w' : ours.FrameWriter} {buf' : List ℕ} where
+module _ (w : ours.FrameWriter) (buf : List ℕ) (room : w.len ≤ length buf) {o : Result Unit Refusal} {w' : ours.FrameWriter} {buf' : List ℕ} where
   pub same_start : Starts w buf o w' buf' → SameWrite (start (view_writer w buf)) o w' buf'
   same_start c = same_write room c (start_is (view_writer w buf) ∙ go (write (start_units w.asyncmap) buf w.len))
     where

@@ -1,12 +1,12 @@
 -- Document 01's domain: what our link holds, what is lent to a call, and what every call keeps of it.
-use Rattle.std.specs.Prelude.{◌≡◌, List, ℕ, ◌+◌, ◌^◌, ◌≤◌, ◌<◌, length}
+use Rattle.std.specs.Prelude.{◌≡◌, List, ℕ, ◌+◌, ◌^◌, ◌≤◌, ◌<◌, length, Result}
 use Rattle.laws.specs.Each.{Bytes}
 use Rattle.framing.specs.Reader.{Framed}
 use Rattle.framing.specs.declared.frame_reader.Reading.TheVariants.{Crate}
 use Rattle.link.specs.Choices.{choices_of, Plain}
 use Rattle.link.specs.Link.{Makes, Opens, Consumes, poll_link, Polls}
 use Rattle.negotiation.specs.declared.credentials.Credentials.{Credentials}
-use Rattle.link.specs.declared.refusal.Outcome.{Outcome}
+use Rattle.link.specs.declared.refusal.Refusal.{Refusal}
 use Rattle.link.specs.declared.choices.Choices.{Choices}
 use Rattle.link.specs.declared.pppos.PPPoS.{PPPoS}
 use Rattle.link.specs.declared.pppos.PPPoSAction.{PPPoSAction}
@@ -39,10 +39,10 @@ pub record CredentialsFit (c : Credentials) : Type 0 where
 
 -- P holds of new's link, made with plain choices and in crate reading, and survives every call, refusals included, whatever bytes are lent; send and status leave the link
 pub record Lasts (P : PPPoS → Type 0) : Type 0 where
-  pub new : (name password : List ℕ) (c : Choices) → Plain c → c.reading ≡ Crate → Bytes name → Bytes password → {o : Outcome} {l : PPPoS} → Makes name password c o l → P l
-  pub «open» : (l : PPPoS) → P l → {o : Outcome} {l' : PPPoS} → Opens l o l' → P l'
-  pub consume : (l : PPPoS) (rx bs : List ℕ) → P l → {o : Outcome} {n : ℕ} {l' : PPPoS} {rx' : List ℕ} → Consumes l rx bs o n l' rx' → P l'
-  pub poll : (l : PPPoS) (tx rx : List ℕ) → Bytes rx → P l → {a : PPPoSAction} {l' : PPPoS} {tx' rx' : List ℕ} → Polls (poll_link l tx rx) a l' tx' rx' → P l'
+  pub new : (name password : List ℕ) (c : Choices) → Plain c → c.reading ≡ Crate → Bytes name → Bytes password → {o : Result Unit Refusal} {l : PPPoS} → Makes name password c o l → P l
+  pub «open» : (l : PPPoS) → P l → {o : Result Unit Refusal} {l' : PPPoS} → Opens l o l' → P l'
+  pub consume : (l : PPPoS) (rx bs : List ℕ) → P l → {t : Result ℕ Refusal} {l' : PPPoS} {rx' : List ℕ} → Consumes l rx bs t l' rx' → P l'
+  pub poll : (l : PPPoS) (tx rx : List ℕ) → Bytes rx → P l → {a : Result PPPoSAction Refusal} {l' : PPPoS} {tx' rx' : List ℕ} → Polls (poll_link l tx rx) a l' tx' rx' → P l'
 
 -- it is so of each of the three
 pub record AllLast : Type 0 where

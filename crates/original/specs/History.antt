@@ -1,5 +1,5 @@
 -- Demand 2 over histories: any calls on a fresh link, plain and in crate reading, one after the other, answer, keep and write what the original's do.
-use Rattle.std.specs.Prelude.{◌≡◌, Bool, true, false, cond, List, [], ◌∷◌, map, ℕ, ◌+◌, ◌≤◌, length}
+use Rattle.std.specs.Prelude.{◌≡◌, Bool, true, false, cond, List, [], ◌∷◌, map, ℕ, ◌+◌, ◌≤◌, length, Result, Ok, Err}
 use Rattle.laws.specs.Each.{Bytes}
 use Rattle.framing.specs.declared.refusal.Refusal.TheVariants.{BufferFull}
 use Rattle.framing.specs.declared.frame_reader.Reading.TheVariants.{Crate}
@@ -10,11 +10,11 @@ use Rattle.link.specs.Choices.{Plain}
 use Rattle.link.specs.Link.{Makes, Opens, Consumes, poll_link, Polls, Sends}
 use Rattle.link.specs.declared.pppos.PPPoSAction.{PPPoSAction}
 use Rattle.link.specs.declared.refusal.Refusal.TheVariants.{Framing, Negotiation}
-use Rattle.link.specs.declared.refusal.Outcome.{Outcome}
-use Rattle.link.specs.declared.refusal.Outcome.TheVariants.{Done, Refused}
+use Rattle.link.specs.declared.refusal.Refusal.{Refusal}
 use Rattle.link.specs.declared.choices.Choices.{Choices}
 use Rattle.link.specs.declared.pppos.PPPoS.{PPPoS}
-use Rattle.original.specs.Run.{Run, returns, ◌>>=◌, Result, ok, err}
+use Rattle.original.specs.Run as run
+use Rattle.original.specs.Run.{Run, returns, ◌>>=◌, ok, err}
 use Rattle.original.specs.Framing.{WriteResult}
 use Rattle.original.specs.Ppp.{Status}
 use Rattle.original.specs.Pppos as theirs
@@ -36,14 +36,14 @@ pub data Answer : Type 0 where
   showed : Status → Answer
   took : (count : ℕ) (rx : List ℕ) → Answer
   acted : theirs.PPPoSAction → (tx rx : List ℕ) → Answer
-  sent : Result ℕ → (tx : List ℕ) → Answer
+  sent : run.Result ℕ → (tx : List ℕ) → Answer
 
 -- an answer, and the link behind it
 pub record Answered : Type 0 where
   pub answer : Answer
   pub link : theirs.PPPoS
 
-abbrev pub opened_by : theirs.PPPoS → Result theirs.PPPoS → Answered
+abbrev pub opened_by : theirs.PPPoS → run.Result theirs.PPPoS → Answered
 opened_by m (ok n) = record { answer = opened true; link = n }
 opened_by m err = record { answer = opened false; link = m }
 
@@ -73,28 +73,28 @@ run_of name password cs = theirs.new_link name password >>= λ m. calls_of m cs
 -- ---- our side
 
 pub data OurAnswer : Type 0 where
-  opened : Outcome → OurAnswer
+  opened : Result Unit Refusal → OurAnswer
   showed : ours.Status → OurAnswer
-  took : Outcome → (count : ℕ) (rx : List ℕ) → OurAnswer
-  acted : PPPoSAction → (tx rx : List ℕ) → OurAnswer
-  sent : Outcome → (count : ℕ) (tx : List ℕ) → OurAnswer
+  took : Result ℕ Refusal → (rx : List ℕ) → OurAnswer
+  acted : Result PPPoSAction Refusal → (tx rx : List ℕ) → OurAnswer
+  sent : Result ℕ Refusal → (tx : List ℕ) → OurAnswer
 
 -- an answer of the original, as ours gives it
 abbrev pub as_answer : Answer → OurAnswer
-as_answer (opened is_ok) = opened (cond is_ok Done (Refused (Negotiation NotDead)))
+as_answer (opened is_ok) = opened (cond is_ok (Ok tt) (Err (Negotiation NotDead)))
 as_answer (showed s) = showed (as_status s)
-as_answer (took n rx) = took Done n rx
-as_answer (acted a tx rx) = acted (as_action a) tx rx
-as_answer (sent (ok n) tx) = sent Done n tx
-as_answer (sent err tx) = sent (Refused (Framing BufferFull)) 0 tx
+as_answer (took n rx) = took (Ok n) rx
+as_answer (acted a tx rx) = acted (Ok (as_action a)) tx rx
+as_answer (sent (ok n) tx) = sent (Ok n) tx
+as_answer (sent err tx) = sent (Err (Framing BufferFull)) tx
 
 -- one call by its contract, in the domain: what it is handed and lent are bytes, and the receive buffer has what the link keeps
 pub data Called (l : PPPoS) : Call → OurAnswer → PPPoS → Type 0 where
-  by_open : {o : Outcome} {l' : PPPoS} → Opens l o l' → Called l opens (opened o) l'
+  by_open : {o : Result Unit Refusal} {l' : PPPoS} → Opens l o l' → Called l opens (opened o) l'
   by_status : Called l asks (showed (status_of l.ppp)) l
-  by_consume : {bs rx : List ℕ} {o : Outcome} {n : ℕ} {l' : PPPoS} {rx' : List ℕ} → Bytes bs → Lent l rx → Consumes l rx bs o n l' rx' → Called l (consumes bs rx) (took o n rx') l'
-  by_poll : {tx rx : List ℕ} {a : PPPoSAction} {l' : PPPoS} {tx' rx' : List ℕ} → Lent l rx → Polls (poll_link l tx rx) a l' tx' rx' → Called l (polls tx rx) (acted a tx' rx') l'
-  by_send : {pkt tx : List ℕ} {o : Outcome} {n : ℕ} {tx' : List ℕ} → Bytes pkt → Sends l pkt tx o n tx' → Called l (sends pkt tx) (sent o n tx') l
+  by_consume : {bs rx : List ℕ} {t : Result ℕ Refusal} {l' : PPPoS} {rx' : List ℕ} → Bytes bs → Lent l rx → Consumes l rx bs t l' rx' → Called l (consumes bs rx) (took t rx') l'
+  by_poll : {tx rx : List ℕ} {a : Result PPPoSAction Refusal} {l' : PPPoS} {tx' rx' : List ℕ} → Lent l rx → Polls (poll_link l tx rx) a l' tx' rx' → Called l (polls tx rx) (acted a tx' rx') l'
+  by_send : {pkt tx : List ℕ} {t : Result ℕ Refusal} {tx' : List ℕ} → Bytes pkt → Sends l pkt tx t tx' → Called l (sends pkt tx) (sent t tx') l
 
 pub data Calls : PPPoS → List Call → List OurAnswer → PPPoS → Type 0 where
   none : {l : PPPoS} → Calls l [] [] l
@@ -109,7 +109,7 @@ pub record History (name password : List ℕ) (cs : List Call) (xs : List OurAns
   pub plain : Plain choices
   pub crate_reading : choices.reading ≡ Crate
   pub fresh : PPPoS
-  pub outcome : Outcome
+  pub outcome : Result Unit Refusal
   pub new : Makes name password choices outcome fresh
   pub calls : Calls fresh cs xs l
 
@@ -118,4 +118,4 @@ pub record History (name password : List ℕ) (cs : List Call) (xs : List OurAns
 -- where the original's run of these calls returns, each answer and buffer of ours is its, and our link is its link
 pub record SameHistory : Type 0 where
   pub same : {name password : List ℕ} {cs : List Call} {xs : List OurAnswer} {l : PPPoS} → (h : History name password cs xs l) → {r : Ran} → run_of name password cs ≡ returns r
-      → (h.outcome ≡ Done) × (xs ≡ map as_answer r.answers) × (view_link l ≡ r.link)
+      → (h.outcome ≡ Ok tt) × (xs ≡ map as_answer r.answers) × (view_link l ≡ r.link)

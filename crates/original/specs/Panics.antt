@@ -1,22 +1,20 @@
 -- Where the original panics: the place, its number in the table of documents 01 and 02, and what our refusal leaves.
-use Rattle.std.specs.Prelude.{◌≡◌, true, cond, List, [], ◌∷◌, ℕ, ◌+◌, ◌≤◌, ◌<◌, ltb, length, get_or}
-use Rattle.framing.specs.Reader.{is_complete, fetched, got_number, Receives, Framed}
+use Rattle.std.specs.Prelude.{◌≡◌, true, cond, List, [], ◌∷◌, ℕ, ◌+◌, ◌≤◌, ◌<◌, ltb, length, get_or, Result, Err}
+use Rattle.framing.specs.Refusal as framing
+use Rattle.framing.specs.Reader.{is_complete, fetched, Got, Receives, Framed}
 use Rattle.framing.specs.declared.frame_reader.FrameReader as reader
-use Rattle.framing.specs.declared.frame_reader.Got.{Got}
 use Rattle.framing.specs.declared.frame_reader.State.TheVariants.{Data}
 use Rattle.framing.specs.declared.frame_reader.Reading.TheVariants.{Crate}
 use Rattle.framing.specs.declared.refusal.Refusal.TheVariants.{BufferShort, FrameShort}
 use Rattle.options.specs.Refusal.{number_of}
 use Rattle.options.specs.declared.refusal.Refusal.{Refusal}
 use Rattle.options.specs.declared.refusal.Refusal.TheVariants.{CredentialsLong}
-use Rattle.options.specs.declared.refusal.Outcome as negotiation
 use Rattle.link.specs.Choices.{Plain}
 use Rattle.link.specs.Link.{link_of, Makes, Consumes, Poll, declined, poll_link, Polls}
 use Rattle.link.specs.Reached.{Reached}
 use Rattle.link.specs.Refusal as link
 use Rattle.link.specs.declared.refusal.Refusal.TheVariants.{Framing, Negotiation, FramesFull}
-use Rattle.link.specs.declared.refusal.Outcome.{Outcome}
-use Rattle.link.specs.declared.refusal.Outcome.TheVariants.{Refused}
+use Rattle.link.specs.declared.refusal.Refusal as link_refusal
 use Rattle.link.specs.declared.choices.Choices.{Choices}
 use Rattle.link.specs.declared.pppos.PPPoS.{PPPoS}
 use Rattle.link.specs.declared.pppos.PPPoSAction.{PPPoSAction}
@@ -57,10 +55,10 @@ number_at reply_long = 10
 number_at reply_full = 1
 
 -- an outcome that is the table's refusal for a place
-pub record RefusedAt (place : Place) (o : negotiation.Outcome) : Type 0 where
+pub record RefusedAt (place : Place) (o : Result Unit Refusal) : Type 0 where
   pub why : Refusal
   pub number : number_of why ≡ number_at place
-  pub outcome : o ≡ negotiation.TheVariants.Refused why
+  pub outcome : o ≡ Err why
 
 -- the two `assert!`s of open, where ours opens as if Closed; the record on which the original would go on so
 pub data Asserts : Place → Type 0 where
@@ -78,7 +76,7 @@ pub data Refuses (l : PPPoS) (tx rx : List ℕ) : Place → Poll → Type 0 wher
   -- a frame does not fit: refusal 1, and everything stays
   full : {p : Poll} → link.number_of FramesFull ≡ number_at reply_full → p ≡ declined FramesFull l tx rx → Refuses l tx rx reply_full p
   -- any other panic of a received packet: the table's refusal, and the frame is dropped
-  dropped : {place : Place} {p : Poll} (why : Refusal) → RefusedAt place (negotiation.TheVariants.Refused why)
+  dropped : {place : Place} {p : Poll} (why : Refusal) → RefusedAt place (Err why)
       → p ≡ declined (Negotiation why) (link_of (fetched l.frame_reader) l.ppp) tx rx → Refuses l tx rx place p
 
 -- a poll of ours, beside what the original's comes to
@@ -97,17 +95,17 @@ unframed_at len = cond (ltb len 2) reader_len poll_order
 
 -- a call that is our refusal of a poll
 pub data Stopped (l : PPPoS) (place : Place) : Call → OurAnswer → PPPoS → Type 0 where
-  stopped : {tx rx : List ℕ} {a : PPPoSAction} {l' : PPPoS} {tx' rx' : List ℕ} → Refuses l tx rx place (record { action = a; link = l'; tx = tx'; rx = rx' }) → Stopped l place (polls tx rx) (acted a tx' rx') l'
+  stopped : {tx rx : List ℕ} {a : Result PPPoSAction link_refusal.Refusal} {l' : PPPoS} {tx' rx' : List ℕ} → Refuses l tx rx place (record { action = a; link = l'; tx = tx'; rx = rx' }) → Stopped l place (polls tx rx) (acted a tx' rx') l'
 
 -- ---- every call, each as its contract has it
 
 pub record AtPanics : Type 0 where
   -- refusal 4, and a fresh link with both credentials empty, above 120 bytes together, also where the original panics
-  pub new_over : (name password : List ℕ) (c : Choices) → Plain c → c.reading ≡ Crate → 120 < length name + length password → {o : Outcome} {l : PPPoS} → Makes name password c o l
-      → (o ≡ Refused (Negotiation CredentialsLong)) × (theirs.new_link [] [] ≡ returns (view_link l)) × (l.frame_reader.reading ≡ Crate)
-  pub new_panics : (name password : List ℕ) (c : Choices) → Plain c → {o : Outcome} {l : PPPoS} → Makes name password c o l
+  pub new_over : (name password : List ℕ) (c : Choices) → Plain c → c.reading ≡ Crate → 120 < length name + length password → {o : Result Unit link_refusal.Refusal} {l : PPPoS} → Makes name password c o l
+      → (o ≡ Err (Negotiation CredentialsLong)) × (theirs.new_link [] [] ≡ returns (view_link l)) × (l.frame_reader.reading ≡ Crate)
+  pub new_panics : (name password : List ℕ) (c : Choices) → Plain c → {o : Result Unit link_refusal.Refusal} {l : PPPoS} → Makes name password c o l
       → {place : Place} → theirs.new_link name password ≡ panics place → link.outcome_number o ≡ number_at place
-  pub poll : (l : PPPoS) (tx rx : List ℕ) → InDomain l rx → Framed l.frame_reader → {a : PPPoSAction} {l' : PPPoS} {tx' rx' : List ℕ} → Polls (poll_link l tx rx) a l' tx' rx'
+  pub poll : (l : PPPoS) (tx rx : List ℕ) → InDomain l rx → Framed l.frame_reader → {a : Result PPPoSAction link_refusal.Refusal} {l' : PPPoS} {tx' rx' : List ℕ} → Polls (poll_link l tx rx) a l' tx' rx'
       → SamePoll l tx rx (theirs.poll (view_link l) tx rx) (record { action = a; link = l'; tx = tx'; rx = rx' })
   -- refusal 5, and the frame dropped, for a complete frame with under three bytes kept
   pub unframed : (l : PPPoS) (tx rx : List ℕ) → l.frame_reader.len ≤ length rx → is_complete l.frame_reader.state ≡ true → l.frame_reader.len < 3
@@ -115,15 +113,15 @@ pub record AtPanics : Type 0 where
       × (theirs.poll (view_link l) tx rx ≡ panics (unframed_at l.frame_reader.len)) × (number_at (unframed_at l.frame_reader.len) ≡ 5)
   -- the same of the reader alone; of two bytes the original's gives the range 1..0
   pub unfetched : {r r' : reader.FrameReader} {g : Got} → Receives r g r' → is_complete r.state ≡ true → r.len < 3
-      → (got_number g ≡ number_at reader_len) × (receive (view_reader r) ≡ cond (ltb r.len 2) (panics reader_len) (returns (range 1 0 (view_reader r'))))
+      → (framing.outcome_number g ≡ number_at reader_len) × (receive (view_reader r) ≡ cond (ltb r.len 2) (panics reader_len) (returns (range 1 0 (view_reader r'))))
   -- refusal 3, and everything left, for a buffer under the kept length; the original panics where the packet itself ends behind the buffer
   pub short_poll : (l : PPPoS) (tx rx : List ℕ) → length rx < l.frame_reader.len
       → (poll_link l tx rx ≡ declined (Framing BufferShort) l tx rx)
       × (is_complete l.frame_reader.state ≡ true → 3 ≤ l.frame_reader.len → length rx + 2 < l.frame_reader.len → (theirs.poll (view_link l) tx rx ≡ panics poll_range) × (number_at poll_range ≡ 3))
   -- the same of a consume; where the original panics, it is at the check of a frame's end
-  pub short_consume : (l : PPPoS) (rx bs : List ℕ) → length rx < l.frame_reader.len → {o : Outcome} {n : ℕ} {l' : PPPoS} {rx' : List ℕ} → Consumes l rx bs o n l' rx'
-      → (o ≡ Refused (Framing BufferShort)) × (n ≡ 0) × (l' ≡ l) × (rx' ≡ rx)
-      × ((place : Place) → theirs.consume_link (view_link l) bs rx ≡ panics place → (place ≡ reader_slice) × (link.outcome_number o ≡ number_at place))
+  pub short_consume : (l : PPPoS) (rx bs : List ℕ) → length rx < l.frame_reader.len → {t : Result ℕ link_refusal.Refusal} {l' : PPPoS} {rx' : List ℕ} → Consumes l rx bs t l' rx'
+      → (t ≡ Err (Framing BufferShort)) × (framing.count_of t ≡ 0) × (l' ≡ l) × (rx' ≡ rx)
+      × ((place : Place) → theirs.consume_link (view_link l) bs rx ≡ panics place → (place ≡ reader_slice) × (link.outcome_number t ≡ number_at place))
   -- there it does panic at a frame's end, with three bytes or more kept, if the buffer is empty or begins with 03
   pub short_end : (l : PPPoS) (rx bs : List ℕ) → length rx < l.frame_reader.len → 3 ≤ l.frame_reader.len → l.frame_reader.state ≡ Data → get_or rx 0 0x03 ≡ 0x03
       → theirs.consume_link (view_link l) (0x7E ∷ bs) rx ≡ panics reader_slice

@@ -1,22 +1,21 @@
 -- Our records as the original's: the one file that later changes of our link touch.
-use Rattle.std.specs.Prelude.{List, ℕ}
+use Rattle.std.specs.Prelude.{List, ℕ, Option}
+use Rattle.std.specs.Prelude as prelude
 use Rattle.framing.specs.declared.frame_writer.FrameWriter as writer
 use Rattle.framing.specs.declared.frame_reader.State as reading
 use Rattle.framing.specs.declared.frame_reader.FrameReader as reader
 use Rattle.negotiation.specs.Credentials.{name_of, password_of}
 use Rattle.negotiation.specs.declared.states.State as fsm
+use Rattle.negotiation.specs.declared.option_fsm.OptionFsm as option_fsm
 use Rattle.options.specs.declared.lcp.AuthType as auth
 use Rattle.options.specs.declared.lcp.Lcp as lcp
 use Rattle.options.specs.declared.ipv4cp.IpOption as ip
 use Rattle.options.specs.declared.ipv4cp.Ipv4cp as ipv4cp
-use Rattle.options.specs.declared.ipv4cp.Shown as shown
 use Rattle.negotiation.specs.declared.pap.PapState as pap_state
 use Rattle.negotiation.specs.declared.auth.Auth as authentication
 use Rattle.phases.specs.declared.ppp.Phase as phase
-use Rattle.phases.specs.declared.ppp.LcpFsm as lcp_fsm
-use Rattle.phases.specs.declared.ppp.Ipv4cpFsm as ipv4cp_fsm
 use Rattle.phases.specs.declared.ppp.Ppp as ppp
-use Rattle.phases.specs.declared.ppp.Ipv4Status as ipv4_status
+use Rattle.phases.specs.declared.ppp.Addresses as addresses
 use Rattle.phases.specs.declared.ppp.Status as status
 use Rattle.link.specs.declared.pppos.PPPoS as link
 use Rattle.link.specs.declared.pppos.PPPoSAction as action
@@ -79,10 +78,10 @@ view_phase phase.TheVariants.Auth = Auth
 view_phase phase.TheVariants.Network = Network
 view_phase phase.TheVariants.Open = Open
 
-abbrev pub view_lcp_fsm : lcp_fsm.LcpFsm → OptionFsm Lcp
+abbrev pub view_lcp_fsm : option_fsm.OptionFsm lcp.Lcp → OptionFsm Lcp
 view_lcp_fsm f = record { id = f.id; state = view_state f.state; proto = view_lcp f.proto }
 
-abbrev pub view_ipv4cp_fsm : ipv4cp_fsm.Ipv4cpFsm → OptionFsm Ipv4cp
+abbrev pub view_ipv4cp_fsm : option_fsm.OptionFsm ipv4cp.Ipv4cp → OptionFsm Ipv4cp
 view_ipv4cp_fsm f = record { id = f.id; state = view_state f.state; proto = view_ipv4cp f.proto }
 
 abbrev pub view_ppp : ppp.Ppp → Ppp
@@ -107,14 +106,14 @@ as_phase Auth = phase.TheVariants.Auth
 as_phase Network = phase.TheVariants.Network
 as_phase Open = phase.TheVariants.Open
 
-abbrev pub as_shown : Shown → shown.Shown
-as_shown NoAddr = shown.TheVariants.Absent
-as_shown (SomeAddr a) = shown.TheVariants.At a
+abbrev pub as_shown : Shown → Option ℕ
+as_shown NoAddr = prelude.None
+as_shown (SomeAddr a) = prelude.Some a
 
-abbrev pub as_ipv4 : Ipv4 → ipv4_status.Ipv4Status
-as_ipv4 Down = ipv4_status.TheVariants.Down
+abbrev pub as_ipv4 : Ipv4 → Option addresses.Addresses
+as_ipv4 Down = prelude.None
 as_ipv4 (Up i) =
-    ipv4_status.TheVariants.Up
+    prelude.Some
     (record { address = as_shown i.address; peer_address = as_shown i.peer_address; dns_server_1 = as_shown i.dns_server1; dns_server_2 = as_shown i.dns_server2 })
 
 -- a status of the original, as ours gives it

@@ -9,21 +9,20 @@ use native.Mathlib.Omega.{arith}
 use borrow.Author.Tests.{lt-ltb, le-ltb, eq-eqb, ne_eqb, eqb-false}
 use lib.Dec.{eqb}
 use lib.ListN.{length, get_or}
+use Rattle.std.specs.Prelude.{Result, Ok, Err}
 use Rattle.laws.proofs.Cases.{by_le, by_test}
 use Rattle.outbox.specs.Ring.{placed}
 use Rattle.outbox.specs.Outbox.{start, sized, entry, longest, free, is_full, Accept, declined, grown, Stored, unused, accept_of, as_accept}
 use Rattle.outbox.specs.History.{taken}
 use Rattle.outbox.specs.declared.refusal.Refusal.{Refusal}
 use Rattle.outbox.specs.declared.refusal.Refusal.TheVariants.{BufferShort, PacketLength, NoRoom}
-use Rattle.outbox.specs.declared.refusal.Outcome.{Outcome}
-use Rattle.outbox.specs.declared.refusal.Outcome.TheVariants.{Done, Refused}
 use Rattle.outbox.specs.declared.outbox.Outbox.{Outbox}
 use Rattle.outbox.specs.declared.outbox.Accepted.{Accepted}
 use Rattle.outbox.proofs.Rings.{placed_then, length-placed, placed_new, placed_others}
 use Rattle.outbox.proofs.Contents.{start_le}
 
-pub declined_is : {r : Accepted} {why : Refusal} {o : Outbox} (buf : List ℕ) → r.outcome ≡ Refused why → r.outbox ≡ o → as_accept r buf ≡ declined why o buf
-declined_is buf p q = ap₂ (λ (x : Outcome) (y : Outbox). record { outcome = x; outbox = y; buf = buf }) p q
+pub declined_is : {r : Accepted} {why : Refusal} {o : Outbox} (buf : List ℕ) → r.outcome ≡ Err why → r.outbox ≡ o → as_accept r buf ≡ declined why o buf
+declined_is buf p q = ap₂ (λ (x : Result Unit Refusal) (y : Outbox). record { outcome = x; outbox = y; buf = buf }) p q
 
 module _ (o : Outbox) (buf p : List ℕ) where
   pub accept_short : length buf < o.size → accept_of o buf p ≡ declined BufferShort o buf
@@ -43,7 +42,7 @@ module _ (o : Outbox) (buf p : List ℕ) where
   accept_full h z e f = rw (le-ltb (length buf) o.size h, ne_eqb (length p) 0 (λ w. omega arith), le-ltb longest (length p) e, f)
 
   pub accept_done : o.size ≤ length buf → 0 < length p → length p ≤ longest → is_full o (length p) ≡ false
-      → accept_of o buf p ≡ record { outcome = Done; outbox = grown o (length p); buf = placed o.size (start o) o.used (entry p) buf }
+      → accept_of o buf p ≡ record { outcome = (Ok tt); outbox = grown o (length p); buf = placed o.size (start o) o.used (entry p) buf }
   unfolding accept_of
   accept_done h z e f = rw (le-ltb (length buf) o.size h, ne_eqb (length p) 0 (λ w. omega arith), le-ltb longest (length p) e, f)
 
@@ -53,7 +52,7 @@ module _ (o : Outbox) (buf p : List ℕ) where
       → (o.size ≤ length buf → (length p ≡ 0) ⊎ (longest < length p) → P (declined PacketLength o buf))
       → (o.size ≤ length buf → 0 < length p → length p ≤ longest → is_full o (length p) ≡ true → P (declined NoRoom o buf))
       → (o.size ≤ length buf → 0 < length p → length p ≤ longest → is_full o (length p) ≡ false
-      → P (record { outcome = Done; outbox = grown o (length p); buf = placed o.size (start o) o.used (entry p) buf }))
+      → P (record { outcome = (Ok tt); outbox = grown o (length p); buf = placed o.size (start o) o.used (entry p) buf }))
       → P (accept_of o buf p)
   accept_cases P short wrong full done =
       by_le o.size (length buf)
@@ -73,7 +72,7 @@ module _ (o : Outbox) (buf p : List ℕ) where
   pub accept_either : (P : Accept → Type 0)
       → ((why : Refusal) → P (declined why o buf))
       → (o.size ≤ length buf → 0 < length p → length p ≤ longest → is_full o (length p) ≡ false
-      → P (record { outcome = Done; outbox = grown o (length p); buf = placed o.size (start o) o.used (entry p) buf }))
+      → P (record { outcome = (Ok tt); outbox = grown o (length p); buf = placed o.size (start o) o.used (entry p) buf }))
       → P (accept_of o buf p)
   accept_either P refused done = accept_cases P (λ h. refused BufferShort) (λ h w. refused PacketLength) (λ h z s f. refused NoRoom) done
 

@@ -104,9 +104,9 @@ pub accept_enters : (b : Book) (p buf : List ℕ) {r : Accepted} {buf' : List �
     → after b (Call.accepts p buf) ≡ entered b p (as_accept r buf')
 accept_enters b p buf e = ap (entered b p) (sym e)
 
-pub send_posts : (b : Book) (l : PPPoS) (buf tx : List ℕ) {r : Sent} {tx' : List ℕ} → as_send r tx' ≡ send_of b.outbox l buf tx
+pub send_posts : (b : Book) (l : PPPoS) (buf tx : List ℕ) (r : Sent) {tx' : List ℕ} → as_send r tx' ≡ send_of b.outbox l buf tx
     → after b (Call.sends l buf tx) ≡ posted b l buf (as_send r tx')
-send_posts b l buf tx e = ap (posted b l buf) (sym e)
+send_posts b l buf tx r e = ap (posted b l buf) (sym e)
 
 -- ---- every history
 

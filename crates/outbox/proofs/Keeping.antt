@@ -9,6 +9,7 @@ use native.Mathlib.Omega.{arith}
 use borrow.Author.Tests.{lt-ltb, le-ltb, le-leb, lt-leb}
 use lib.ListN.{length, take, drop, length-append}
 use lib.Seq.{length-take-le, take-take, take-append_seam}
+use Rattle.std.specs.Prelude.{Ok, Err}
 use Rattle.laws.specs.Each.{Each}
 use Rattle.laws.proofs.Cases.{by_le}
 use Rattle.laws.proofs.Each.{each_append}
@@ -22,7 +23,6 @@ use Rattle.outbox.specs.Outbox.{largest, longest, start, content, entry, first, 
 use Rattle.outbox.specs.History.{takes, Call, lent, Post, Book, leaves, entered, posted, after, begun, Untouched, Framed}
 use Rattle.outbox.specs.declared.refusal.Refusal.{Refusal}
 use Rattle.outbox.specs.declared.refusal.Refusal.TheVariants.{BufferShort}
-use Rattle.outbox.specs.declared.refusal.Outcome.TheVariants.{Done, Refused}
 use Rattle.outbox.specs.declared.outbox.Outbox.{Outbox}
 use Rattle.outbox.proofs.Rings.{around_more, length-placed}
 use Rattle.outbox.proofs.Accepting.{accept_either, room_bytes}
@@ -108,7 +108,7 @@ kept_idle b k l buf u s e z =
 -- ---- a packet more
 
 kept_more : (b : Book) → Kept b → (p buf : List ℕ) → Untouched b buf → b.outbox.size ≤ length buf → length p ≤ longest → is_full b.outbox (length p) ≡ false
-    → Kept (entered b p (record { outcome = Done; outbox = grown b.outbox (length p); buf = placed b.outbox.size (start b.outbox) b.outbox.used (entry p) buf }))
+    → Kept (entered b p (record { outcome = (Ok tt); outbox = grown b.outbox (length p); buf = placed b.outbox.size (start b.outbox) b.outbox.used (entry p) buf }))
 kept_more b k p buf u h s f =
     rw (leaves_long b new (omega (arith, long)))
     (record {
@@ -225,7 +225,7 @@ module _ (b : Book) (k : Kept b) (l : PPPoS) (buf tx : List ℕ) (u : Untouched 
 kept_sends : (b : Book) → Kept b → (l : PPPoS) (buf tx : List ℕ) → Untouched b buf → Kept (after b (Call.sends l buf tx))
 kept_sends b k l buf tx u =
     send_cases b.outbox l buf tx (λ (s : Send). Kept (posted b l buf s))
-    (λ h. kept_idle b k l buf u (record { outcome = Refused BufferShort; count = 0; outbox = b.outbox; tx = tx }) refl refl)
+    (λ h. kept_idle b k l buf u (record { outcome = Err BufferShort; count = 0; outbox = b.outbox; tx = tx }) refl refl)
     (λ h e. kept_idle b k l buf u (idle b.outbox tx) refl refl)
     (λ h some d t. kept_idle b k l buf u (kept_first b.outbox l (front_in b.outbox buf) tx) refl refl)
     (λ h some d t. go h some d t k.waiting refl)

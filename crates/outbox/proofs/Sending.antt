@@ -1,6 +1,6 @@
 -- The call that sends, by its tests.
 -- Assumes nothing.
-use mathlib.Core.Path.{◌≡◌, ap, ap₂, sym, ◌∙◌, subst}
+use mathlib.Core.Path.{◌≡◌, ap, sym, ◌∙◌, subst}
 use mathlib.Core.Bool.{Bool, true, false, cond}
 use mathlib.Core.List.{List, ◌∷◌, ◌++◌}
 use mathlib.Core.Logic.{◌⊎◌, inl, inr}
@@ -9,6 +9,7 @@ use native.Mathlib.Omega.{arith}
 use borrow.Author.Tests.{lt-ltb, le-ltb, eq-eqb, ne_eqb, eqb-true, eqb-false}
 use lib.Dec.{eqb}
 use lib.ListN.{length, length-append}
+use Rattle.std.specs.Prelude.{Result, Ok, Err}
 use Rattle.laws.proofs.Cases.{by_le, by_test, cond_by}
 use Rattle.framing.specs.Rfc1662.{fcs, check_bytes, escaped, unit, stuffed, frame}
 use Rattle.framing.specs.Writer.{holds}
@@ -21,24 +22,15 @@ use Rattle.negotiation.specs.declared.states.State.TheVariants.{Opened}
 use Rattle.negotiation.proofs.StateTable.{is_opened_lem}
 use Rattle.link.specs.Link.{remote_map, ip_frame, Sends}
 use Rattle.link.specs.declared.refusal.Refusal.TheVariants as link
-use Rattle.link.specs.declared.refusal.Outcome as linked
+use Rattle.link.specs.declared.refusal.Refusal as linked
 use Rattle.link.specs.declared.pppos.PPPoS.{PPPoS}
-use Rattle.link.specs.declared.pppos.Sent as link_sent
-use Rattle.outbox.specs.Outbox.{Send, up, front_in, sent_first, kept_first, idle, send_of, as_send, answered_by, answered, shrunk}
+use Rattle.outbox.specs.Outbox.{Send, up, front_in, sent_first, kept_first, idle, send_of, as_send, answered, shrunk}
 use Rattle.outbox.specs.History.{went}
 use Rattle.outbox.specs.declared.refusal.Refusal.TheVariants.{BufferShort, Link}
-use Rattle.outbox.specs.declared.refusal.Outcome.{Outcome}
-use Rattle.outbox.specs.declared.refusal.Outcome.TheVariants.{Done, Refused}
 use Rattle.outbox.specs.declared.outbox.Outbox.{Outbox}
-use Rattle.outbox.specs.declared.outbox.Sent.{Sent}
 
-pub sends_as : {l : PPPoS} {x y tx tx' : List ℕ} {o : linked.Outcome} {n : ℕ} → x ≡ y → Sends l x tx o n tx' → Sends l y tx o n tx'
-sends_as {l} {x} {y} {tx} {tx'} {o} {n} e h = subst (λ (p : List ℕ). Sends l p tx o n tx') e h
-
-pub idle_is : {r : Sent} {o : Outbox} (tx : List ℕ) → (r.outcome ≡ Done) × (r.count ≡ 0) × (r.outbox ≡ o) → as_send r tx ≡ idle o tx
-idle_is {r} {o} tx e =
-    ap₂ (λ (x : Outcome) (k : ℕ). record { outcome = x; count = k; outbox = r.outbox; tx = tx }) e.0 e.1
-    ∙ ap (λ (x : Outbox). idle x tx) e.2
+pub sends_as : {l : PPPoS} {x y tx tx' : List ℕ} {r : Result ℕ linked.Refusal} → x ≡ y → Sends l x tx r tx' → Sends l y tx r tx'
+sends_as {l} {x} {y} {tx} {tx'} {r} e h = subst (λ (p : List ℕ). Sends l p tx r tx') e h
 
 -- ---- IPv4CP
 
@@ -51,7 +43,7 @@ opened_up l e = ap is_opened e
 -- ---- by its tests
 
 module _ (o : Outbox) (l : PPPoS) (buf tx : List ℕ) where
-  pub send_short : length buf < o.size → send_of o l buf tx ≡ record { outcome = Refused BufferShort; count = 0; outbox = o; tx = tx }
+  pub send_short : length buf < o.size → send_of o l buf tx ≡ record { outcome = Err BufferShort; count = 0; outbox = o; tx = tx }
   unfolding send_of
   send_short h = rw (lt-ltb _ _ h)
 
@@ -70,7 +62,7 @@ module _ (o : Outbox) (l : PPPoS) (buf tx : List ℕ) where
 
   -- what holds of each answer where it may be given holds of the one that is given
   pub send_cases : (P : Send → Type 0)
-      → (length buf < o.size → P (record { outcome = Refused BufferShort; count = 0; outbox = o; tx = tx }))
+      → (length buf < o.size → P (record { outcome = Err BufferShort; count = 0; outbox = o; tx = tx }))
       → (o.size ≤ length buf → (o.held ≡ 0) ⊎ (up l ≡ false) → P (idle o tx))
       → (o.size ≤ length buf → (o.held ≡ 0 → ⊥) → up l ≡ true → holds (remote_map l) (ip_frame (front_in o buf)) (length tx) ≡ false → P (kept_first o l (front_in o buf) tx))
       → (o.size ≤ length buf → (o.held ≡ 0 → ⊥) → up l ≡ true → holds (remote_map l) (ip_frame (front_in o buf)) (length tx) ≡ true → P (sent_first o l (front_in o buf) tx))
@@ -88,26 +80,22 @@ module _ (o : Outbox) (l : PPPoS) (buf tx : List ℕ) where
       (λ h. subst P (sym (send_short h)) (short h))
 
 -- what the link's answer comes to is what the definition says
-pub answer_is : (o : Outbox) (n : ℕ) (e : link_sent.Sent) {l : PPPoS} {p tx tx' : List ℕ} → Sends l p tx e.outcome e.count tx' → n ≡ length p
+pub answer_is : (o : Outbox) (n : ℕ) {e : Result ℕ linked.Refusal} {l : PPPoS} {p tx tx' : List ℕ} → Sends l p tx e tx' → n ≡ length p
     → as_send (answered o n e) tx' ≡ cond (holds (remote_map l) (ip_frame p) (length tx)) (sent_first o l p tx) (kept_first o l p tx)
-answer_is o n e {l} {p} {tx} {tx'} s q =
-    go (holds (remote_map l) (ip_frame p) (length tx)) s.outcome s.lays.count
+answer_is o n {e} {l} {p} {tx} {tx'} s q =
+    ap (λ (r : Result ℕ linked.Refusal). as_send (answered o n r) tx') s.outcome
+    ∙ go (holds (remote_map l) (ip_frame p) (length tx))
     ∙ ap (λ (b : List ℕ). cond (holds (remote_map l) (ip_frame p) (length tx)) (did b) (not_did b)) s.lays.bytes
   where
     did : List ℕ → Send
-    did b = record { outcome = Done; count = length (frame (remote_map l) (ip_frame p)); outbox = shrunk o (length p); tx = b }
+    did b = record { outcome = Ok tt; count = length (frame (remote_map l) (ip_frame p)); outbox = shrunk o (length p); tx = b }
 
     not_did : List ℕ → Send
-    not_did b = record { outcome = Refused (Link (link.Framing framing.BufferFull)); count = 0; outbox = o; tx = b }
+    not_did b = record { outcome = Err (Link (link.Framing framing.BufferFull)); count = 0; outbox = o; tx = b }
 
-    go : (t : Bool) → e.outcome ≡ cond t linked.TheVariants.Done (linked.TheVariants.Refused (link.Framing framing.BufferFull)) → e.count ≡ cond t (length (frame (remote_map l) (ip_frame p))) 0
-        → as_send (answered o n e) tx' ≡ cond t (did tx') (not_did tx')
-    go true a b =
-        ap (λ x. as_send (answered_by x e.count o n) tx') a
-        ∙ ap₂ (λ (k m : ℕ). record { outcome = Done; count = k; outbox = shrunk o m; tx = tx' }) b q
-    go false a b =
-        ap (λ x. as_send (answered_by x e.count o n) tx') a
-        ∙ ap (λ (k : ℕ). record { outcome = Refused (Link (link.Framing framing.BufferFull)); count = k; outbox = o; tx = tx' }) b
+    go : (t : Bool) → as_send (answered o n (cond t (Ok (length (frame (remote_map l) (ip_frame p)))) (Err (link.Framing framing.BufferFull)))) tx' ≡ cond t (did tx') (not_did tx')
+    go true = ap (λ (m : ℕ). record { outcome = Ok tt; count = length (frame (remote_map l) (ip_frame p)); outbox = shrunk o m; tx = tx' }) q
+    go false = λ i. not_did tx'
 
 -- ---- the frame of an IP packet
 

@@ -1,13 +1,12 @@
 -- Histories of calls on one outbox, from its creation on: what was accepted, what went, and what is held (document 02, 3/12).
-use Rattle.std.specs.Prelude.{◌≡◌, Bool, true, false, cond, ◌||◌, List, [], ◌∷◌, ◌++◌, ℕ, ◌+◌, ◌%◌, ◌≤◌, ◌<◌, ltb, eqb, length, take}
+use Rattle.std.specs.Prelude.{◌≡◌, Bool, true, false, cond, ◌||◌, List, [], ◌∷◌, ◌++◌, ℕ, ◌+◌, ◌%◌, ◌≤◌, ◌<◌, ltb, eqb, length, take, Result, Ok, Err}
 use Rattle.framing.specs.Rfc1662.{frame}
 use Rattle.negotiation.specs.declared.states.State.TheVariants.{Opened}
 use Rattle.link.specs.Link.{remote_map, ip_frame}
 use Rattle.link.specs.declared.pppos.PPPoS.{PPPoS}
 use Rattle.outbox.specs.Refusal.{outcome_number}
 use Rattle.outbox.specs.Outbox.{longest, is_enough, fresh_of, held_in, free, Accept, accept_of, Stored, Send, send_of}
-use Rattle.outbox.specs.declared.refusal.Outcome.{Outcome}
-use Rattle.outbox.specs.declared.refusal.Outcome.TheVariants.{Done, Refused}
+use Rattle.outbox.specs.declared.refusal.Refusal.{Refusal}
 use Rattle.outbox.specs.declared.outbox.Outbox.{Outbox}
 
 -- ---- what a caller notes, from what it lends and what it is answered
@@ -34,9 +33,9 @@ pub record Book : Type 0 where
   pub sent : List Post
 
 -- a packet is accepted where the answer is done
-abbrev pub taken : Outcome → Bool
-taken Done = true
-taken (Refused r) = false
+abbrev pub taken : Result Unit Refusal → Bool
+taken (Ok x) = true
+taken (Err r) = false
 
 -- a packet is sent where the answer has a count
 abbrev pub went : ℕ → Bool

@@ -1,19 +1,17 @@
 -- What the outbox holds, and what its calls do (document 02, 3/12).
-use Rattle.std.specs.Prelude.{◌≡◌, Bool, cond, not, ◌||◌, List, [], ◌∷◌, ◌++◌, ℕ, zero, suc, ◌+◌, ◌*◌, ◌-◌, ◌/◌, ◌%◌, ◌<◌, min, ltb, leb, eqb, length, take, drop, get_or}
+use Rattle.std.specs.Prelude.{◌≡◌, Bool, cond, not, ◌||◌, List, [], ◌∷◌, ◌++◌, ℕ, zero, suc, ◌+◌, ◌*◌, ◌-◌, ◌/◌, ◌%◌, ◌<◌, min, ltb, leb, eqb, length, take, drop, get_or, Result, Ok, Err}
 use Rattle.framing.specs.Rfc1662.{frame}
 use Rattle.framing.specs.Writer.{holds, laid, over}
 use Rattle.framing.specs.declared.refusal.Refusal.TheVariants as framing
 use Rattle.negotiation.specs.Automaton.{is_opened}
 use Rattle.link.specs.Link.{remote_map, ip_frame}
 use Rattle.link.specs.declared.refusal.Refusal.TheVariants as link
-use Rattle.link.specs.declared.refusal.Outcome as linked
+use Rattle.link.specs.declared.refusal.Refusal as linked
 use Rattle.link.specs.declared.pppos.PPPoS.{PPPoS}
-use Rattle.link.specs.declared.pppos.Sent as link_sent
+use Rattle.framing.specs.Refusal.{count_of}
 use Rattle.outbox.specs.Ring.{turned, placed, around}
 use Rattle.outbox.specs.declared.refusal.Refusal.{Refusal}
 use Rattle.outbox.specs.declared.refusal.Refusal.TheVariants.{BufferShort, PacketLength, NoRoom, Link}
-use Rattle.outbox.specs.declared.refusal.Outcome.{Outcome}
-use Rattle.outbox.specs.declared.refusal.Outcome.TheVariants.{Done, Refused}
 use Rattle.outbox.specs.declared.outbox.Outbox.{Outbox}
 use Rattle.outbox.specs.declared.outbox.Accepted.{Accepted}
 use Rattle.outbox.specs.declared.outbox.Sent.{Sent}
@@ -85,12 +83,12 @@ free o = o.size - o.used
 
 -- the outcome, the outbox and its buffer
 pub record Accept : Type 0 where
-  pub outcome : Outcome
+  pub outcome : Result Unit Refusal
   pub outbox : Outbox
   pub buf : List ℕ
 
 abbrev pub declined : Refusal → Outbox → List ℕ → Accept
-declined why o buf = record { outcome = Refused why; outbox = o; buf = buf }
+declined why o buf = record { outcome = Err why; outbox = o; buf = buf }
 
 -- no free room for a packet of n bytes and its length; or no number of 64 bits for one packet more, which no buffer that nobody else writes leads to
 abbrev pub is_full : Outbox → ℕ → Bool
@@ -106,7 +104,7 @@ accept_of o buf p =
     cond (ltb (length buf) o.size) (declined BufferShort o buf)
     (cond (eqb (length p) 0 || ltb longest (length p)) (declined PacketLength o buf)
     (cond (is_full o (length p)) (declined NoRoom o buf)
-    (record { outcome = Done; outbox = grown o (length p); buf = placed o.size (start o) o.used (entry p) buf })))
+    (record { outcome = Ok tt; outbox = grown o (length p); buf = placed o.size (start o) o.used (entry p) buf })))
 
 -- the buffer that a packet was accepted into, index by index: byte j of its length and itself stands at index `at j`, and every other byte stays
 pub record Stored (at : ℕ → ℕ) (p buf buf' : List ℕ) : Type 0 where
@@ -126,7 +124,7 @@ as_accept r buf = record { outcome = r.outcome; outbox = r.outbox; buf = buf }
 
 -- the outcome, the count, the outbox and the transmit buffer
 pub record Send : Type 0 where
-  pub outcome : Outcome
+  pub outcome : Result Unit Refusal
   pub count : ℕ
   pub outbox : Outbox
   pub tx : List ℕ
@@ -173,31 +171,32 @@ written l p tx = over (laid (remote_map l) (ip_frame p) (length tx)) tx
 -- the packet p goes
 abbrev pub sent_first : Outbox → PPPoS → List ℕ → List ℕ → Send
 sent_first o l p tx =
-    record { outcome = Done; count = length (frame (remote_map l) (ip_frame p)); outbox = shrunk o (length p); tx = written l p tx }
+    record { outcome = Ok tt; count = length (frame (remote_map l) (ip_frame p)); outbox = shrunk o (length p); tx = written l p tx }
 
 -- the packet p stays in front
 abbrev pub kept_first : Outbox → PPPoS → List ℕ → List ℕ → Send
-kept_first o l p tx = record { outcome = Refused (Link (link.Framing framing.BufferFull)); count = 0; outbox = o; tx = written l p tx }
+kept_first o l p tx = record { outcome = Err (Link (link.Framing framing.BufferFull)); count = 0; outbox = o; tx = written l p tx }
 
 -- nothing is sent
 abbrev pub idle : Outbox → List ℕ → Send
-idle o tx = record { outcome = Done; count = 0; outbox = o; tx = tx }
+idle o tx = record { outcome = Ok tt; count = 0; outbox = o; tx = tx }
 
 -- 3 before all others; nothing with none held or IPv4CP not Opened; else the link's send of the packet in front
 unfoldable pub send_of : Outbox → PPPoS → List ℕ → List ℕ → Send
 send_of o l buf tx =
-    cond (ltb (length buf) o.size) (record { outcome = Refused BufferShort; count = 0; outbox = o; tx = tx })
+    cond (ltb (length buf) o.size) (record { outcome = Err BufferShort; count = 0; outbox = o; tx = tx })
     (cond (eqb o.held 0 || not (up l)) (idle o tx)
     (cond (holds (remote_map l) (ip_frame (front_in o buf)) (length tx)) (sent_first o l (front_in o buf) tx) (kept_first o l (front_in o buf) tx)))
 
 -- the same as the code holds it
+abbrev pub outcome_in : Result ℕ Refusal → Result Unit Refusal
+outcome_in (Ok n) = Ok tt
+outcome_in (Err why) = Err why
+
 abbrev pub as_send : Sent → List ℕ → Send
-as_send r tx = record { outcome = r.outcome; count = r.count; outbox = r.outbox; tx = tx }
+as_send r tx = record { outcome = outcome_in r.sent; count = count_of r.sent; outbox = r.outbox; tx = tx }
 
 -- what the link's answer e comes to
-abbrev pub answered_by : linked.Outcome → ℕ → Outbox → ℕ → Sent
-answered_by linked.TheVariants.Done k o n = record { outcome = Done; count = k; outbox = shrunk o n }
-answered_by (linked.TheVariants.Refused why) k o n = record { outcome = Refused (Link why); count = k; outbox = o }
-
-abbrev pub answered : Outbox → ℕ → link_sent.Sent → Sent
-answered o n e = answered_by e.outcome e.count o n
+abbrev pub answered : Outbox → ℕ → Result ℕ linked.Refusal → Sent
+answered o n (Ok k) = record { sent = Ok k; outbox = shrunk o n }
+answered o n (Err why) = record { sent = Err (Link why); outbox = o }

@@ -4,12 +4,11 @@ ghost use Rattle.link.specs.Link.{Sends};
 ghost use Rattle.outbox.specs.Ring.{placed};
 ghost use Rattle.outbox.specs.Outbox.{start, reach, is_full, fresh_of, content, sized, entry, first, free, grown, gone, shrunk, accept_of, as_accept, send_of, as_send, answered, up, is_enough};
 
-use crate::refusal::{Outcome, Refusal};
-use crate::ring::{byte_at, place, put};
+use crate::refusal::Refusal;
+use crate::ring::Ring;
 use link::pppos::PPPoS;
-use negotiation::states::is_opened;
 
-#[derive(Clone, Copy)]
+#[derive(Clone, Copy, PartialEq, Eq)]
 pub struct Outbox {
     pub size: usize,
     // Where the oldest packet's length stands.
@@ -18,16 +17,17 @@ pub struct Outbox {
     pub held: usize,
 }
 
-#[derive(Clone, Copy)]
+// A refused call leaves an outbox too, here and in Sent.
+#[derive(Clone, Copy, PartialEq, Eq)]
 pub struct Accepted {
-    pub outcome: Outcome,
+    pub outcome: Result<(), Refusal>,
     pub outbox: Outbox,
 }
 
-#[derive(Clone, Copy)]
+// How many bytes of the transmit buffer are to be sent: none where nothing was due.
+#[derive(Clone, Copy, PartialEq, Eq)]
 pub struct Sent {
-    pub outcome: Outcome,
-    pub count: usize,
+    pub sent: Result<usize, Refusal>,
     pub outbox: Outbox,
 }
 
@@ -38,28 +38,19 @@ const LARGEST: usize = 65536;
 
 const LONGEST: usize = 1500;
 
-fn wide(b: u8) -> usize
-    ensures { (result ≡ b) × (result < 256) }
-{
-    b as usize
-}
-
 // A packet's length, high byte first.
 fn size_bytes(n: usize) -> [u8; 2]
     requires { n < 65536 }
     ensures { result ≡ sized n }
 {
-    [(n / 256) as u8, (n % 256) as u8]
+    (n as u16).to_be_bytes()
 }
 
 // IPv4CP is Opened.
 fn up(l: PPPoS) -> bool
     ensures { result ≡ up l }
 {
-    let p = l.ppp;
-    let c = p.ipv4cp;
-    let s = c.state;
-    is_opened(s)
+    l.ppp.ipv4cp.state.is_opened()
 }
 
 // Whether a transmit buffer holds the frame of every packet: with less a long one may stay in front for good.
@@ -74,17 +65,8 @@ impl Outbox {
     pub fn new(buf: &[u8]) -> Self
         ensures { result ≡ fresh_of (length buf.now) }
     {
-        let n = buf.len();
-        if n < LARGEST {
-            return Outbox {
-                size: n,
-                front: 0,
-                used: 0,
-                held: 0,
-            };
-        }
         Outbox {
-            size: LARGEST,
+            size: buf.len().min(LARGEST),
             front: 0,
             used: 0,
             held: 0,
@@ -108,37 +90,35 @@ impl Outbox {
     pub fn free(self) -> usize
         ensures { result ≡ free self }
     {
-        if self.size < self.used {
-            return 0;
-        }
-        self.size - self.used
+        self.size.saturating_sub(self.used)
     }
 
-    // The front, 0 in a record whose front lies outside.
-    fn start(self) -> usize
-        ensures { (result ≡ start self) × (result ≤ self.size) }
+    // The ring from the front on, which is 0 in a record whose front lies outside.
+    fn ring(self) -> Ring
+        ensures { (result.size ≡ self.size) × (result.front ≡ start self) }
     {
-        if self.front < self.size {
-            return self.front;
+        Ring {
+            size: self.size,
+            front: if self.front < self.size {
+                self.front
+            } else {
+                0
+            },
         }
-        0
     }
 
     // The bytes used, at most all.
     fn reach(self) -> usize
         ensures { (result ≡ reach self) × (result ≤ self.size) }
     {
-        if self.used < self.size {
-            return self.used;
-        }
-        self.size
+        self.used.min(self.size)
     }
 
     fn decline(self, why: Refusal) -> Accepted
-        ensures { (result.outcome ≡ Outcome.Refused why) × (result.outbox ≡ self) }
+        ensures { (result.outcome ≡ Err why) × (result.outbox ≡ self) }
     {
         Accepted {
-            outcome: Outcome::Refused(why),
+            outcome: Err(why),
             outbox: self,
         }
     }
@@ -148,29 +128,24 @@ impl Outbox {
         requires { n ≤ 1500 }
         ensures { result ≡ is_full self n }
     {
-        if self.free() < n + 2 {
-            return true;
-        }
-        self.held == 0xFFFF_FFFF_FFFF_FFFF
+        self.free() < n + 2 || self.held == usize::MAX
     }
+
+    // `size ≤ length buf` is asked here, of `front_len` and of `send_front`, since the buffer is lent beside the state (document 01).
 
     // The packet with its length, behind what is used.
     fn store(self, pkt: &[u8], buf: &mut [u8]) -> Self
         requires { (self.size ≤ length buf.old) × (2 + length pkt.now ≤ free self) × (length pkt.now ≤ 1500) × (self.held < 0xFFFFFFFFFFFFFFFF) }
         ensures { (result ≡ grown self (length pkt.now)) × (buf.new ≡ placed self.size (start self) self.used (entry pkt.now) buf.old) }
     {
-        let n = pkt.len();
-        let size = self.size;
-        let used = self.used;
-        let front = self.start();
-        let head = size_bytes(n);
-        put(buf, size, front, used, &head);
-        put(buf, size, front, used + 2, pkt);
+        let ring = self.ring();
+        let head = size_bytes(pkt.len());
+        ring.put(buf, self.used, &head);
+        ring.put(buf, self.used + 2, pkt);
         Outbox {
-            size,
-            front: self.front,
-            used: used + 2 + n,
+            used: self.used + 2 + pkt.len(),
             held: self.held + 1,
+            ..self
         }
     }
 
@@ -178,21 +153,17 @@ impl Outbox {
     pub fn accept(self, pkt: &[u8], buf: &mut [u8]) -> Accepted
         ensures { as_accept result buf.new ≡ accept_of self buf.old pkt.now }
     {
-        let n = pkt.len();
         if buf.len() < self.size {
             return self.decline(Refusal::BufferShort);
         }
-        if n == 0 {
+        if pkt.is_empty() || LONGEST < pkt.len() {
             return self.decline(Refusal::PacketLength);
         }
-        if LONGEST < n {
-            return self.decline(Refusal::PacketLength);
-        }
-        if self.is_full(n) {
+        if self.is_full(pkt.len()) {
             return self.decline(Refusal::NoRoom);
         }
         Accepted {
-            outcome: Outcome::Done,
+            outcome: Ok(()),
             outbox: self.store(pkt, buf),
         }
     }
@@ -206,68 +177,60 @@ impl Outbox {
         if reach < 2 {
             return 0;
         }
-        let size = self.size;
-        let front = self.start();
-        let high = wide(byte_at(buf, size, front, 0));
-        let low = wide(byte_at(buf, size, front, 1));
-        let n = high * 256 + low;
-        if reach - 2 < n {
-            return reach - 2;
-        }
-        n
+        let ring = self.ring();
+        let n = u16::from_be_bytes([ring.byte_at(buf, 0), ring.byte_at(buf, 1)]);
+        usize::from(n).min(reach - 2)
     }
 
     // How many bytes go with a packet of `n` bytes.
     fn gone(self, n: usize) -> usize
-        requires { n < 0x8000000000000000 }
         ensures { (result ≡ gone self n) × (result ≤ reach self) × (result ≤ self.size) }
     {
-        let reach = self.reach();
-        if n + 2 < reach {
-            return n + 2;
-        }
-        reach
+        n.saturating_add(2).min(self.reach())
     }
 
     // The outbox without its oldest packet, which has `n` bytes.
     fn shrink(self, n: usize) -> Self
-        requires { (n < 0x8000000000000000) × (self.size < 0x8000000000000000) }
         ensures { result ≡ shrunk self n }
     {
         let gone = self.gone(n);
-        let size = self.size;
-        let front = place(size, self.start(), gone);
+        let front = self.ring().place(gone);
         if self.held <= 1 {
             return Outbox {
-                size,
                 front,
                 used: 0,
                 held: 0,
+                ..self
             };
         }
         Outbox {
-            size,
             front,
             used: self.reach() - gone,
             held: self.held - 1,
+            ..self
         }
     }
 
     // The frame of the oldest packet, which has `n` bytes and may lie in two parts.
-    fn send_front(self, n: usize, l: PPPoS, buf: &[u8], tx: &mut [u8]) -> link::pppos::Sent
+    fn send_front(
+        self,
+        n: usize,
+        l: PPPoS,
+        buf: &[u8],
+        tx: &mut [u8],
+    ) -> Result<usize, link::refusal::Refusal>
         requires { (self.size ≤ length buf.now) × (n ≡ length (first (content self buf.now))) }
-        ensures { Sends l (first (content self buf.now)) tx.old result.outcome result.count tx.new }
+        ensures { Sends l (first (content self buf.now)) tx.old result tx.new }
     {
         if n == 0 {
             return l.send(&buf[..0], tx);
         }
-        let size = self.size;
-        let from = place(size, self.start(), 2);
-        let room = size - from;
+        let from = self.ring().place(2);
+        let room = self.size - from;
         if n <= room {
             return l.send(&buf[from..from + n], tx);
         }
-        l.send_parts(&buf[from..size], &buf[..n - room], tx)
+        l.send_parts(&buf[from..self.size], &buf[..n - room], tx)
     }
 
     // Sends the oldest packet, if there is one and IPv4CP is Opened.
@@ -276,49 +239,33 @@ impl Outbox {
     {
         if buf.len() < self.size {
             return Sent {
-                outcome: Outcome::Refused(Refusal::BufferShort),
-                count: 0,
+                sent: Err(Refusal::BufferShort),
                 outbox: self,
             };
         }
-        if self.held == 0 {
-            return self.idle();
-        }
-        if !up(l) {
-            return self.idle();
+        if self.held == 0 || !up(l) {
+            return Sent {
+                sent: Ok(0),
+                outbox: self,
+            };
         }
         let n = self.front_len(buf);
-        let e = self.send_front(n, l, buf, tx);
-        self.answer(n, e)
-    }
-
-    fn idle(self) -> Sent
-        ensures { (result.outcome ≡ Outcome.Done) × (result.count ≡ 0) × (result.outbox ≡ self) }
-    {
-        Sent {
-            outcome: Outcome::Done,
-            count: 0,
-            outbox: self,
-        }
+        self.answer(n, self.send_front(n, l, buf, tx))
     }
 
     // What the link's `send` of the oldest packet, which has `n` bytes, comes to.
-    fn answer(self, n: usize, e: link::pppos::Sent) -> Sent
-        requires { (n < 0x8000000000000000) × (self.size < 0x8000000000000000) }
-        ensures { result ≡ answered self n e }
+    fn answer(self, n: usize, sent: Result<usize, link::refusal::Refusal>) -> Sent
+        ensures { result ≡ answered self n sent }
     {
-        let o = e.outcome;
-        if let link::refusal::Outcome::Refused(why) = o {
-            return Sent {
-                outcome: Outcome::Refused(Refusal::Link(why)),
-                count: e.count,
+        match sent {
+            Ok(count) => Sent {
+                sent: Ok(count),
+                outbox: self.shrink(n),
+            },
+            Err(why) => Sent {
+                sent: Err(Refusal::Link(why)),
                 outbox: self,
-            };
-        }
-        Sent {
-            outcome: Outcome::Done,
-            count: e.count,
-            outbox: self.shrink(n),
+            },
         }
     }
 }

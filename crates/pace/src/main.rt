@@ -6,32 +6,26 @@
 mod case;
 mod rounds;
 
-use crate::case::Case;
+use crate::case::{Case, What};
 use crate::rounds::{Sum, accept_rounds, both_rounds, fill, link_rounds, plain};
-use outbox::outbox::ALWAYS_ENOUGH;
 use std::io;
 use streams::read_full;
 
-fn measure(c: Case, peer: &[u8], pkt: &mut [u8], buf: &mut [u8]) -> Sum {
-    let mut tx = [0u8; ALWAYS_ENOUGH];
+fn measure(case: Case, peer: &[u8], pkt: &mut [u8], buf: &mut [u8]) -> Sum {
     plain(pkt);
-    if c.what == b'l' {
-        return link_rounds(peer, pkt, &mut tx, c.rounds);
+    match case.what {
+        What::Link => link_rounds(peer, pkt, case.rounds),
+        What::Accept => accept_rounds(fill(case.held, pkt, buf), pkt, buf, case.rounds),
+        What::Both => both_rounds(fill(case.held, pkt, buf), peer, pkt, buf, case.rounds),
     }
-    let o = fill(c.held, pkt, buf);
-    if c.what == b'a' {
-        return accept_rounds(o, pkt, buf, c.rounds);
-    }
-    both_rounds(o, peer, pkt, buf, &mut tx, c.rounds)
 }
 
 fn main(rt: HostRuntime) -> io::Result<()> {
     let mut text = [0u8; 4096];
     let n = read_full(&mut rt.stdin(), &mut text)?;
-    let all = &text[..n];
-    let c = Case::read(all);
+    let (case, peer) = Case::read(&text[..n]);
     let mut room = [0u8; 1500];
     let mut buf = [0u8; 65536];
-    let s = measure(c, c.behind(all), c.packet(&mut room), &mut buf);
-    println!(rt; "{} {}", s.counts, s.bytes)
+    let sum = measure(case, peer, case.packet(&mut room), &mut buf);
+    println!(rt; "{} {}", sum.counts, sum.bytes)
 }

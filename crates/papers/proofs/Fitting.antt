@@ -15,9 +15,9 @@ use Rattle.laws.proofs.Be.{be_less}
 use Rattle.laws.proofs.Cases.{cond_by, cond_all, both}
 use Rattle.laws.proofs.Each.{each_left, each_right}
 use Rattle.options.specs.declared.ipv4cp.IpOption.{IpOption}
-use Rattle.options.specs.declared.ipv4cp.Ipv4cpJudged.{Ipv4cpJudged}
+use Rattle.options.specs.declared.ipv4cp.Ipv4cp.{Ipv4cp}
 use Rattle.options.specs.declared.lcp.Lcp.{Lcp}
-use Rattle.options.specs.declared.lcp.LcpJudged.{LcpJudged}
+use Rattle.options.specs.declared.proto.Judged.{Judged}
 use Rattle.options.specs.declared.proto.Proto.{Proto}
 use Rattle.options.specs.declared.proto.Proto.TheVariants.{Lcp as OfLcp, Ipv4cp as OfIpv4cp}
 use Rattle.papers.specs.Rfc1661.{Option, Options, none, more}
@@ -66,10 +66,10 @@ fits_taken rej p (o ∷ os) b h = fits_taken rej (own_nacked p o.type o.value re
 
 fits_one : (p : Proto) (c : ℕ) (d : List ℕ) → Fits p → Fits (judge_of p c d).proto
 fits_one (OfLcp p) c d h =
-    let P : LcpJudged → Type 0 = λ j. j.lcp.asyncmap < 0x100000000 in
+    let P : Judged Lcp → Type 0 = λ j. j.proto.asyncmap < 0x100000000 in
     cond_all P (eqb c 2) (cond_all P (eqb (length d) 4) h h) (cond_all P (eqb c 3) (cond_all P (same d (suggestion_lcp p)) h h) h)
 fits_one (OfIpv4cp p) c d h =
-    cond_all (λ (j : Ipv4cpJudged). Fits (OfIpv4cp j.ipv4cp)) (eqb c 3 && eqb (length d) 4) h h
+    cond_all (λ (j : Judged Ipv4cp). Fits (OfIpv4cp j.proto)) (eqb c 3 && eqb (length d) 4) h h
 
 fits_judged : (p : Proto) (os : List Option) → Fits p → Fits (judged_all p os)
 fits_judged p [] h = h

@@ -7,10 +7,10 @@ use mathlib.Core.List.{List, [], ◌∷◌}
 use borrow.Author.Tests.{le-ltb, ne_eqb}
 use native.Mathlib.Omega.{arith}
 use lib.ListN.{length, drop}
+use Rattle.std.specs.Prelude.{Ok}
 use Rattle.laws.specs.Be.{be_bytes}
 use Rattle.laws.specs.Each.{Each}
 use Rattle.options.specs.declared.proto.Proto.{Proto}
-use Rattle.options.specs.declared.refusal.Outcome.TheVariants.{Done}
 use Rattle.negotiation.specs.declared.option_fsm.OptionFsm.{OptionFsm}
 use Rattle.papers.specs.Rfc1661.{Carried, configure_ack, configure_nak, configure_reject, terminate_request, terminate_ack, code_reject, protocol_reject, echo_request, echo_reply, discard_request, Option, Options}
 use Rattle.options.specs.Wire.{max_packet, packet_of}
@@ -24,7 +24,7 @@ use Rattle.papers.proofs.Walked.{walk_options, walk_options_lem}
 use Rattle.papers.proofs.Sending.{number_for, sent_by_lem}
 
 -- the packet of the paper, without its padding, by its code
-pub by_code : (f : OptionFsm) {bytes info : List ℕ} {p c i : ℕ} → Carried bytes p c i info → handle_of f bytes ≡ act_of f c i (packet_of p c i info)
+pub by_code : (f : OptionFsm Proto) {bytes info : List ℕ} {p c i : ℕ} → Carried bytes p c i info → handle_of f bytes ≡ act_of f c i (packet_of p c i info)
 unfolding handle_of
 by_code f {bytes} k =
     let r = read_as k in
@@ -42,7 +42,7 @@ pub record One (sent : List (List ℕ)) (protocol code id : ℕ) (info : List �
   pub packet : Sent bytes protocol code id info
 
 -- a Terminate-Ack
-terminates : (f : OptionFsm) {i : ℕ} → i < 256 → ((term_ack_of f i).fsm ≡ f) × One (term_ack_of f i).sent (number_for f.proto) terminate_ack i []
+terminates : (f : OptionFsm Proto) {i : ℕ} → i < 256 → ((term_ack_of f i).fsm ≡ f) × One (term_ack_of f i).sent (number_for f.proto) terminate_ack i []
 unfolding term_ack_of
 terminates f {i} h = (
   refl,
@@ -56,24 +56,24 @@ abbrev pub taken_up : Bool → Proto → List Option → Proto
 taken_up rej p [] = p
 taken_up rej p (o ∷ os) = taken_up rej (own_nacked p o.type o.value rej) os
 
-taken-up : (rej : Bool) (p : Proto) (os : List Option) → nacks_of rej p (walk_options os) ≡ record { outcome = Done; proto = taken_up rej p os }
+taken-up : (rej : Bool) (p : Proto) (os : List Option) → nacks_of rej p (walk_options os) ≡ record { outcome = Ok tt; proto = taken_up rej p os }
 unfolding nacks_of
 taken-up rej p [] = refl
 taken-up rej p (o ∷ os) = taken-up rej (own_nacked p o.type o.value rej) os
 
 -- a list of the paper is not refused
-taken : (f : OptionFsm) (rej : Bool) {info : List ℕ} {os : List Option} → Options info os
+taken : (f : OptionFsm Proto) (rej : Bool) {info : List ℕ} {os : List Option} → Options info os
     → nack_with f (nacks_of rej f.proto (walk_of info)) ≡ requested (after_nacked f (taken_up rej f.proto os)) []
 unfolding nack_with
 taken f rej {info} {os} l = rw (walk_options_lem 0 l, taken-up rej f.proto os) refl
 
-in_list : (f : OptionFsm) (rej : Bool) (p c i : ℕ) (info : List ℕ) → nack_of f rej (packet_of p c i info) ≡ nack_with f (nacks_of rej f.proto (walk_of info))
+in_list : (f : OptionFsm Proto) (rej : Bool) (p c i : ℕ) (info : List ℕ) → nack_of f rej (packet_of p c i info) ≡ nack_with f (nacks_of rej f.proto (walk_of info))
 unfolding nack_of
 in_list f rej p c i info =
     let h : 6 ≤ length (packet_of p c i info) = omega (arith, length_packet p c i info) in
     rw (le-ltb _ _ h, data_of p c i info) refl
 
-module _ (f : OptionFsm) (n : is_closed f.state ≡ false) {bytes info : List ℕ} {p i : ℕ} where
+module _ (f : OptionFsm Proto) (n : is_closed f.state ≡ false) {bytes info : List ℕ} {p i : ℕ} where
   pub by_nak : Carried bytes p configure_nak i info → handle_of f bytes ≡ nack_with f (nacks_of false f.proto (walk_of info))
   unfolding act_of
   by_nak k = by_code f k ∙ rw n (in_list f false p configure_nak i info)
@@ -112,7 +112,7 @@ module _ (f : OptionFsm) (n : is_closed f.state ≡ false) {bytes info : List �
   ignores =
       ((λ k. by_code f k ∙ rw n refl), ((λ k. by_code f k ∙ rw n refl), ((λ k. by_code f k ∙ rw n refl), ((λ k. by_code f k ∙ rw n refl), tt))))
 
-module _ (f : OptionFsm) {bytes info : List ℕ} {p i : ℕ} where
+module _ (f : OptionFsm Proto) {bytes info : List ℕ} {p i : ℕ} where
   pub discards : Carried bytes p discard_request i info → handle_of f bytes ≡ reacts f []
   unfolding act_of ignore_of
   discards k = by_code f k

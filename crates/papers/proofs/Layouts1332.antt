@@ -40,7 +40,7 @@ module _ {t a : ℕ} {o : Option} (x : Address t o a) where
 
 -- the peer's address: acked, and stored
 pub judge_address : (p : Ipv4cp) {o : Option} {a : ℕ} → IpAddress o a
-    → judge_ipv4cp p o.type o.value ≡ record { verdict = Ack; ipv4cp = with_peer p a }
+    → judge_ipv4cp p o.type o.value ≡ record { verdict = Ack; proto = with_peer p a }
 judge_address p x = rw (address_length x, address_number x, x.type) refl
 
 -- an own address as a Reject drops it, or as a Nak suggests another

@@ -7,8 +7,9 @@ use mathlib.Core.Bool.{Bool, true, false}
 use mathlib.Core.List.{List, []}
 use native.Mathlib.Omega.{arith}
 use lib.ListN.{get_or}
+use Rattle.std.specs.Prelude.{Ok}
 use Rattle.laws.specs.Each.{Bytes}
-use Rattle.options.specs.declared.refusal.Outcome.TheVariants.{Done}
+use Rattle.options.specs.declared.proto.Proto.{Proto}
 use Rattle.negotiation.specs.declared.option_fsm.OptionFsm.{OptionFsm}
 use Rattle.papers.specs.Rfc1661.{Carried, configure_request, configure_nak, configure_reject, Option, Options}
 use Rattle.options.specs.Refusal.{is_done}
@@ -31,16 +32,16 @@ abbrev pub options_of : List ℕ → List Option
 options_of s = options_in (walk_of (data_in s))
 
 -- a Nak's or a Reject's list, taken up, and the request that follows
-pub record TakenUp (f : OptionFsm) (rej : Bool) (s : List ℕ) : Type 0 where
+pub record TakenUp (f : OptionFsm Proto) (rej : Bool) (s : List ℕ) : Type 0 where
   pub turn : handle_of f s ≡ requested (after_nacked f (taken_up rej f.proto (options_of s))) []
   pub asks : Requests (taken_up rej f.proto (options_of s)) (next_id f.id) (request_bytes (taken_up rej f.proto (options_of s)) (next_id f.id))
 
 -- a Configure-Request's list, answered, and the request that may follow
-pub record Told (f : OptionFsm) (s : List ℕ) : Type 0 where
+pub record Told (f : OptionFsm Proto) (s : List ℕ) : Type 0 where
   pub replied : Replied f (get_or s 3 0) (data_in s) (options_of s) (handle_of f s)
   pub fits : Fits (handle_of f s).fsm.proto
 
-module _ (f : OptionFsm) (n : is_closed f.state ≡ false) (h : Fits f.proto) {s : List ℕ} (b : Bytes s) (r : Readable s)
+module _ (f : OptionFsm Proto) (n : is_closed f.state ≡ false) (h : Fits f.proto) {s : List ℕ} (b : Bytes s) (r : Readable s)
     (d : is_done (handle_of f s).outcome ≡ true) where
   coded : {c : ℕ} → get_or s 2 0 ≡ c → Carried s (protocol_in s) c (get_or s 3 0) (data_in s)
   coded e = subst (λ (c : ℕ). Carried s (protocol_in s) c (get_or s 3 0) (data_in s)) e (reads_packet s b r).carried
@@ -58,7 +59,7 @@ module _ (f : OptionFsm) (n : is_closed f.state ≡ false) (h : Fits f.proto) {s
   whole : (rej : Bool) → handle_of f s ≡ nack_with f (nacks_of rej f.proto (walk_of (data_in s))) → Options (data_in s) (options_of s)
   unfolding nack_with
   whole rej e =
-      let o : (nacks_of rej f.proto (walk_of (data_in s))).outcome ≡ Done = done_with _ f _ (rw e at d) in
+      let o : (nacks_of rej f.proto (walk_of (data_in s))).outcome ≡ Ok tt = done_with _ f _ (rw e at d) in
       listed (sym (nacks_whole rej f.proto (walk_of (data_in s))) ∙ rw o refl)
 
   asks_on : (rej : Bool) → Options (data_in s) (options_of s) → handle_of f s ≡ requested (after_nacked f (taken_up rej f.proto (options_of s))) []

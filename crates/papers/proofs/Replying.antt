@@ -7,13 +7,13 @@ use mathlib.Core.List.{List, [], ◌∷◌}
 use borrow.Author.Tests.{le-ltb}
 use native.Mathlib.Omega.{arith}
 use lib.ListN.{length, length-take}
+use Rattle.std.specs.Prelude.{Result, Ok, Err}
 use Rattle.laws.proofs.Cases.{cond_by}
 use Rattle.options.specs.declared.proto.Proto.{Proto}
 use Rattle.options.specs.declared.proto.Proto.TheVariants.{Lcp, Ipv4cp}
 use Rattle.options.specs.declared.proto.Verdict.{Verdict}
 use Rattle.options.specs.declared.proto.Verdict.TheVariants.{Ack, Nack, Rej}
-use Rattle.options.specs.declared.refusal.Outcome.{Outcome}
-use Rattle.options.specs.declared.refusal.Outcome.TheVariants.{Done, Refused}
+use Rattle.options.specs.declared.refusal.Refusal.{Refusal}
 use Rattle.negotiation.specs.declared.option_fsm.OptionFsm.{OptionFsm}
 use Rattle.papers.specs.Rfc1661.{Carried, configure_request, configure_ack, configure_nak, configure_reject, Option, Options}
 use Rattle.options.specs.Refusal.{is_done}
@@ -43,7 +43,7 @@ answer_code_lem p Nack i d h k = sent_by_lem p configure_nak i d (omega arith) h
 answer_code_lem p Rej i d h k = sent_by_lem p configure_reject i d (omega arith) h k
 
 -- what f sends and leaves for the options os, laid out in request, that came with the id i
-pub record Replied (f : OptionFsm) (i : ℕ) (request : List ℕ) (os : List Option) (t : Reaction) : Type 0 where
+pub record Replied (f : OptionFsm Proto) (i : ℕ) (request : List ℕ) (os : List Option) (t : Reaction) : Type 0 where
   pub verdict : Verdict
   pub info : List ℕ
   pub bytes : List ℕ
@@ -58,16 +58,16 @@ pub record Replied (f : OptionFsm) (i : ℕ) (request : List ℕ) (os : List Opt
   -- from Opened an own request follows
   pub sent : t.sent ≡ bytes ∷ cond (is_opened f.state) (request_bytes t.fsm.proto (next_id f.id) ∷ []) []
 
-pub done_with : (o : Outcome) (f : OptionFsm) (t : Reaction) → is_done (unless o f t).outcome ≡ true → o ≡ Done
-done_with Done f t d = refl
-done_with (Refused why) f t d = absurd (false≢true d)
+pub done_with : (o : Result Unit Refusal) (f : OptionFsm Proto) (t : Reaction) → is_done (unless o f t).outcome ≡ true → o ≡ Ok tt
+done_with (Ok tt) f t d = refl
+done_with (Err why) f t d = absurd (false≢true d)
 
 start_verdict : (p : Proto) → verdict_of (start_of p) ≡ verdict_of p
 start_verdict (Lcp p) = ap lcp_verdict (start_suggestion (Lcp p))
 start_verdict (Ipv4cp p) = refl
 
-module _ (f : OptionFsm) (i : ℕ) (b : i < 256) {request : List ℕ} {os : List Option} (l : Options request os)
-    (e : (reply_to (start_of f.proto) request).outcome ≡ Done) where
+module _ (f : OptionFsm Proto) (i : ℕ) (b : i < 256) {request : List ℕ} {os : List Option} (l : Options request os)
+    (e : (reply_to (start_of f.proto) request).outcome ≡ Ok tt) where
   replied : Replied f i request os (replied_of f i (reply_to (start_of f.proto) request))
   unfolding requested
   replied =
@@ -95,14 +95,14 @@ module _ (f : OptionFsm) (i : ℕ) (b : i < 256) {request : List ℕ} {os : List
       } in
       cond_by (Replied f i request os) (is_opened f.state) (λ o. made _ refl (rw o refl)) (λ o. made _ refl (rw o refl))
 
-module _ (f : OptionFsm) (n : is_closed f.state ≡ false) {bytes request : List ℕ} {p i : ℕ} (k : Carried bytes p configure_request i request) where
+module _ (f : OptionFsm Proto) (n : is_closed f.state ≡ false) {bytes request : List ℕ} {p i : ℕ} (k : Carried bytes p configure_request i request) where
   pub by_request : handle_of f bytes ≡ req_with f i (reply_to (start_of f.proto) request)
   unfolding act_of req_of
   by_request =
       let h : 6 ≤ length (packet_of p configure_request i request) = omega (arith, length_packet p configure_request i request) in
       by_code f k ∙ rw (n, le-ltb _ _ h, data_of p configure_request i request) refl
 
-  pub request-done : is_done (handle_of f bytes).outcome ≡ true → (reply_to (start_of f.proto) request).outcome ≡ Done
+  pub request-done : is_done (handle_of f bytes).outcome ≡ true → (reply_to (start_of f.proto) request).outcome ≡ Ok tt
   unfolding req_with
   request-done d = done_with (reply_to (start_of f.proto) request).outcome f _ (rw by_request at d)
 

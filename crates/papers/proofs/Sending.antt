@@ -91,11 +91,11 @@ requests p i k h =
     }
 
 -- it is what an automaton sends that asks, behind what was to be sent before, and all that it sends as it opens
-pub asked : (f : OptionFsm) (ps : List (List ℕ)) → (requested f ps).sent ≡ ps ++ (request_bytes f.proto (next_id f.id) ∷ [])
+pub asked : (f : OptionFsm Proto) (ps : List (List ℕ)) → (requested f ps).sent ≡ ps ++ (request_bytes f.proto (next_id f.id) ∷ [])
 unfolding requested
 asked f ps = refl
 
-pub opened : (f : OptionFsm) → (opened_fsm f).sent ≡ request_bytes f.proto (next_id f.id) ∷ []
+pub opened : (f : OptionFsm Proto) → (opened_fsm f).sent ≡ request_bytes f.proto (next_id f.id) ∷ []
 unfolding opened_fsm requested
 opened f = refl
 
@@ -111,7 +111,7 @@ pub record Rejects (i protocol : ℕ) (information bytes : List ℕ) : Type 0 wh
   pub packet : Sent bytes lcp protocol_reject i info
   pub rejected : Rejected info protocol information
 
-pub rejects : (f : OptionFsm) {pkt information : List ℕ} {protocol : ℕ} → Encapsulated pkt protocol information → length pkt ≤ max_rejected
+pub rejects : (f : OptionFsm Proto) {pkt information : List ℕ} {protocol : ℕ} → Encapsulated pkt protocol information → length pkt ≤ max_rejected
     → (protocol_reject_of f pkt ≡ reacts (stepped f) (reject_bytes (next_id f.id) pkt ∷ []))
     × Rejects (next_id f.id) protocol information (reject_bytes (next_id f.id) pkt)
 unfolding protocol_reject_of

@@ -12,10 +12,10 @@ use Rattle.laws.specs.Each.{Each}
 use Rattle.laws.specs.Same.{same}
 use Rattle.laws.proofs.Cases.{by_test, cond_all, cond_ap}
 use Rattle.laws.proofs.Same.{same_eq}
-use Rattle.options.specs.declared.ipv4cp.Ipv4cpJudged.{Ipv4cpJudged}
+use Rattle.options.specs.declared.ipv4cp.Ipv4cp.{Ipv4cp}
 use Rattle.options.specs.declared.lcp.AuthType.TheVariants.{Pap}
 use Rattle.options.specs.declared.lcp.Lcp.{Lcp}
-use Rattle.options.specs.declared.lcp.LcpJudged.{LcpJudged}
+use Rattle.options.specs.declared.proto.Judged.{Judged}
 use Rattle.options.specs.declared.proto.Proto.{Proto}
 use Rattle.options.specs.declared.proto.Proto.TheVariants.{Lcp as OfLcp, Ipv4cp as OfIpv4cp}
 use Rattle.options.specs.declared.proto.Verdict.{Verdict}
@@ -47,14 +47,14 @@ verdict_of (OfIpv4cp p) = ipv4cp_verdict
 pub judged_verdict : (p : Proto) (c : ℕ) (d : List ℕ) → (judge_of p c d).verdict ≡ verdict_of p c d
 judged_verdict (OfLcp p) c d = go (eqb c 2) (eqb (length d) 4) (eqb c 3) (same d (suggestion_lcp p)) _ _ _ _ _
   where
-    go : (s t u v : Bool) (a b e f g : LcpJudged) → (cond s (cond t a b) (cond u (cond v e f) g)).verdict
+    go : (s t u v : Bool) (a b e f g : Judged Lcp) → (cond s (cond t a b) (cond u (cond v e f) g)).verdict
         ≡ cond s (cond t a.verdict b.verdict) (cond u (cond v e.verdict f.verdict) g.verdict)
     go true true u v a b e f g = refl
     go true false u v a b e f g = refl
     go false t true true a b e f g = refl
     go false t true false a b e f g = refl
     go false t false v a b e f g = refl
-judged_verdict (OfIpv4cp p) c d = cond_ap (λ (j : Ipv4cpJudged). j.verdict) (eqb c 3 && eqb (length d) 4) _ _
+judged_verdict (OfIpv4cp p) c d = cond_ap (λ (j : Judged Ipv4cp). j.verdict) (eqb c 3 && eqb (length d) 4) _ _
 
 pub judged_proto : (p : Proto) (c : ℕ) (d : List ℕ) → verdict_of (judge_of p c d).proto ≡ verdict_of p
 judged_proto (OfLcp p) c d = ap lcp_verdict (judge_suggestion (OfLcp p) c d)
@@ -90,7 +90,7 @@ judge_other p {o} {n} {needed} x k =
 
 lcp_verdict_lem : (p : Lcp) (o : Option) {v : Verdict} {q : Lcp} → judge_lcp p o.type o.value ≡ judged_lcp v q
     → verdict_of (OfLcp p) o.type o.value ≡ v
-lcp_verdict_lem p o e = sym (judged_verdict (OfLcp p) o.type o.value) ∙ ap (λ (j : LcpJudged). j.verdict) e
+lcp_verdict_lem p o e = sym (judged_verdict (OfLcp p) o.type o.value) ∙ ap (λ (j : Judged Lcp). j.verdict) e
 
 pub pap_acked : (p : Lcp) {o : Option} → PapOption o → verdict_of (OfLcp p) o.type o.value ≡ Ack
 pap_acked p {o} x = lcp_verdict_lem p o (judge_pap p x)
@@ -104,7 +104,7 @@ map_acked p {o} x = lcp_verdict_lem p o (judge_map x p)
 
 pub address_acked : {o : Option} {a : ℕ} → IpAddress o a → ipv4cp_verdict o.type o.value ≡ Ack
 address_acked {o} x =
-    sym (judged_verdict (OfIpv4cp fresh_ipv4cp) o.type o.value) ∙ ap (λ (j : Ipv4cpJudged). j.verdict) (judge_address fresh_ipv4cp x)
+    sym (judged_verdict (OfIpv4cp fresh_ipv4cp) o.type o.value) ∙ ap (λ (j : Judged Ipv4cp). j.verdict) (judge_address fresh_ipv4cp x)
 
 -- any other option is rejected (RFC 1661, 5.4)
 pub lcp_rejects : (p : Lcp) (o : Option) → (o.type ≡ 2 → ⊥) → (o.type ≡ 3 → ⊥) → verdict_of (OfLcp p) o.type o.value ≡ Rej
@@ -117,7 +117,7 @@ ipcp_rejects o h = rw (ne_eqb o.type 3 h) refl
 
 abbrev pub judged_lcps : Lcp → List Option → Lcp
 judged_lcps p [] = p
-judged_lcps p (o ∷ os) = judged_lcps (judge_lcp p o.type o.value).lcp os
+judged_lcps p (o ∷ os) = judged_lcps (judge_lcp p o.type o.value).proto os
 
 abbrev pub judged_all : Proto → List Option → Proto
 judged_all p [] = p
@@ -125,19 +125,19 @@ judged_all p (o ∷ os) = judged_all (judge_of p o.type o.value).proto os
 
 pub judged_lcps_lem : (p : Lcp) (os : List Option) → judged_all (OfLcp p) os ≡ OfLcp (judged_lcps p os)
 judged_lcps_lem p [] = refl
-judged_lcps_lem p (o ∷ os) = judged_lcps_lem (judge_lcp p o.type o.value).lcp os
+judged_lcps_lem p (o ∷ os) = judged_lcps_lem (judge_lcp p o.type o.value).proto os
 
 -- no other option changes the map
 map_kept : (p : Lcp) (os : List Option) → Each (λ o. o.type ≡ 2 → ⊥) os → (judged_lcps p os).asyncmap_remote ≡ p.asyncmap_remote
 map_kept p [] n = refl
 map_kept p (o ∷ os) n =
-    let P : LcpJudged → Type 0 = λ j. j.lcp.asyncmap_remote ≡ p.asyncmap_remote in
+    let P : Judged Lcp → Type 0 = λ j. j.proto.asyncmap_remote ≡ p.asyncmap_remote in
     let j = judge_lcp p o.type o.value in
-    map_kept j.lcp os n.1
+    map_kept j.proto os n.1
     ∙ rw (ne_eqb o.type 2 n.0) (cond_all P (eqb o.type 3) (cond_all P (same o.value (suggestion_lcp p)) refl refl) refl)
 
 -- the last map of a request is the one stored
 pub stored-map : (p : Lcp) (before : List Option) {o : Option} {m : ℕ} (after : List Option) → AsyncMap o m
     → Each (λ x. x.type ≡ 2 → ⊥) after → (judged_lcps p (before ++ (o ∷ after))).asyncmap_remote ≡ m
-stored-map p [] {o} after x n = map_kept _ after n ∙ ap (λ (j : LcpJudged). j.lcp.asyncmap_remote) (judge_map x p)
-stored-map p (b ∷ before) after x n = stored-map (judge_lcp p b.type b.value).lcp before after x n
+stored-map p [] {o} after x n = map_kept _ after n ∙ ap (λ (j : Judged Lcp). j.proto.asyncmap_remote) (judge_map x p)
+stored-map p (b ∷ before) after x n = stored-map (judge_lcp p b.type b.value).proto before after x n

@@ -12,8 +12,8 @@ use lib.Seq.{length-take-le, drop-drop, take-append_seam, drop-append_seam}
 use Rattle.laws.specs.Each.{Each, Bytes}
 use Rattle.laws.proofs.Cases.{apart}
 use Rattle.laws.proofs.Each.{each_right}
-use Rattle.options.specs.declared.walk.Parsed.{Parsed}
-use Rattle.options.specs.declared.walk.Parsed.TheVariants.{Opt, Cut}
+use Rattle.std.specs.Prelude.{Option as Optional, None, Some}
+use Rattle.options.specs.declared.walk.Head.{Head}
 use Rattle.papers.specs.Rfc1661.{Option, Options, none, more}
 use Rattle.options.specs.Options.{option_of, Walk, done, cut, opt, walk_from, walk_of}
 use Rattle.options.proofs.Walks.{Uncut, option_whole, walk_done, walk_cut, walk_opt}
@@ -27,7 +27,7 @@ walk_options [] = done
 walk_options (o ∷ os) = opt o.type o.value (walk_options os)
 
 -- the option at the front of a list that is laid out so
-front : (c : ℕ) (d bytes : List ℕ) → option_of (c ∷ (length d + 2) ∷ (d ++ bytes)) ≡ Opt c (length d + 2)
+front : (c : ℕ) (d bytes : List ℕ) → option_of (c ∷ (length d + 2) ∷ (d ++ bytes)) ≡ Some (record { code = c; len = length d + 2 })
 front c d bytes =
     let s = c ∷ (length d + 2) ∷ (d ++ bytes) in
     let a : 2 ≤ length s = omega arith in
@@ -44,47 +44,50 @@ walk_options_lem at (more {bytes} o g h p) =
     let m : length v + 2 - 2 ≡ length v = omega arith in
     let d : take (length v + 2 - 2) (v ++ bytes) ≡ v = rw (m, take-append_seam) refl in
     let r : drop (length v + 2) s ≡ bytes = rw (add-two, drop-append_seam) refl in
-    walk_opt at s o.type (length v + 2) (omega arith) (front o.type v bytes)
+    walk_opt at s (record { code = o.type; len = length v + 2 }) (omega arith) (front o.type v bytes)
     ∙ rw (d, r, walk_options_lem (at + (length v + 2)) p) refl
 
 -- ---- what is walked to its end is a list of the paper
 
 -- a list by its first option
-split : (s : List ℕ) (c n : ℕ) → Uncut s c n → s ≡ c ∷ n ∷ (take (n - 2) (drop 2 s) ++ drop n s)
-split [] c n w = absurd (omega (arith, w.head))
-split (a ∷ []) c n w = absurd (omega (arith, w.head))
-split (a ∷ b ∷ r) c n w =
+split : (s : List ℕ) (h : Head) → Uncut s h → s ≡ h.code ∷ h.len ∷ (take (h.len - 2) (drop 2 s) ++ drop h.len s)
+split [] h w = absurd (omega (arith, w.head))
+split (a ∷ []) h w = absurd (omega (arith, w.head))
+split (a ∷ b ∷ r) h w =
+    let n = h.len in
     let k : 2 + (n - 2) ≡ n = omega arith in
     let q : drop n (a ∷ b ∷ r) ≡ drop (n - 2) r = sym (drop-drop (n - 2) 2 (a ∷ b ∷ r) ∙ ap (λ (m : ℕ). drop m (a ∷ b ∷ r)) k) in
-    rw (q, take-append-drop) (cc)
+    rw (q, take-append-drop, ← w.code, ← w.size) refl
 
-by_option : {P : Type 0} (s : List ℕ) → (option_of s ≡ Cut → P) → ((c n : ℕ) → option_of s ≡ Opt c n → P) → P
+by_option : {P : Type 0} (s : List ℕ) → (option_of s ≡ None → P) → ((h : Head) → option_of s ≡ Some h → P) → P
 by_option {P} s f g = go (option_of s) refl
   where
-    go : (o : Parsed) → option_of s ≡ o → P
-    go Cut e = f e
-    go (Opt c n) e = g c n e
+    go : (o : Optional Head) → option_of s ≡ o → P
+    go None e = f e
+    go (Some h) e = g h e
 
 -- bytes that are walked as options are those options laid out
 pub options_walk : (os : List Option) (at : ℕ) (s : List ℕ) → Bytes s → walk_from at s ≡ walk_options os → Options s os
 options_walk [] at [] b e = none
 options_walk [] at (x ∷ s) b e =
-    by_option (x ∷ s) (λ f. apart (cc (walk_cut at (x ∷ s) (omega arith) f))) (λ c n f. apart (cc (walk_opt at (x ∷ s) c n (omega arith) f)))
+    by_option (x ∷ s) (λ f. apart (cc (walk_cut at (x ∷ s) (omega arith) f))) (λ h f. apart (cc (walk_opt at (x ∷ s) h (omega arith) f)))
 options_walk (o ∷ os) at [] b e = apart (cc (walk_done at [] (omega arith)))
 options_walk (o ∷ os) at (x ∷ s) b e =
     by_option (x ∷ s) (λ f. apart (cc (walk_cut at (x ∷ s) (omega arith) f)))
-    (λ c n f.
+    (λ h f.
     let t = x ∷ s in
-    let w = option_whole t c n f in
+    let c = h.code in
+    let n = h.len in
+    let w = option_whole t h f in
     let d = take (n - 2) (drop 2 t) in
-    let g : opt c d (walk_from (at + n) (drop n t)) ≡ walk_options (o ∷ os) = sym (walk_opt at t c n (omega arith) f) ∙ e in
-    let u = subst Bytes (split t c n w) b in
+    let g : opt c d (walk_from (at + n) (drop n t)) ≡ walk_options (o ∷ os) = sym (walk_opt at t h (omega arith) f) ∙ e in
+    let u = subst Bytes (split t h w) b in
     let y : c ≡ o.type = cc in
     let v : d ≡ o.value = cc in
     let k : length d ≡ n - 2 = length-take-le (n - 2) (drop 2 t) (rw length-drop (omega arith)) in
     let l : length o.value + 2 ≡ n = omega (arith, ap length v) in
     let p = options_walk os (at + n) (drop n t) (each_right _ d (drop n t) u.1.1) (cc) in
-    let i : t ≡ o.type ∷ (length o.value + 2) ∷ (o.value ++ drop n t) = split t c n w ∙ cc in
+    let i : t ≡ o.type ∷ (length o.value + 2) ∷ (o.value ++ drop n t) = split t h w ∙ cc in
     subst (λ (y : List ℕ). Options y (o ∷ os)) (sym i) (more o (rw y at u.0) (omega (arith, u.1.0)) p))
 
 -- the options of a walk, and whether it comes to its end

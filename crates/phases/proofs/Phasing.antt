@@ -10,7 +10,7 @@ use lib.Dec.{ltb, eqb}
 use lib.ListN.{length}
 use Rattle.laws.proofs.Cases.{cond_all}
 use Rattle.options.specs.declared.refusal.Refusal.{Refusal}
-use Rattle.options.specs.declared.refusal.Outcome.TheVariants.{Done, Refused}
+use Rattle.std.specs.Prelude.{Ok, Err}
 use Rattle.options.specs.declared.lcp.AuthType.{AuthType}
 use Rattle.options.specs.declared.lcp.AuthType.TheVariants.{None}
 use Rattle.options.specs.declared.lcp.AuthType.TheVariants as auth
@@ -34,14 +34,14 @@ use Rattle.phases.proofs.Resting.{rests_still}
 -- ---- a turn, by its outcome
 
 module _ (p : Ppp) (pkt : List ℕ) where
-  pub turn_refused_lem : {why : Refusal} → (received_of p pkt).outcome ≡ Refused why → turn_of p pkt ≡ turn_refused p why
+  pub turn_refused_lem : {why : Refusal} → (received_of p pkt).outcome ≡ Err why → turn_of p pkt ≡ turn_refused p why
   unfolding turn_of
   turn_refused_lem e = rw e refl
 
-  pub turn_done : (received_of p pkt).outcome ≡ Done
+  pub turn_done : (received_of p pkt).outcome ≡ Ok tt
       → turn_of p pkt
       ≡ record {
-        outcome = Done;
+        outcome = Ok tt;
         echoed = (received_of p pkt).echoed;
         ppp = (phase_of (received_of p pkt).ppp).ppp;
         sent = (received_of p pkt).sent ++ (phase_of (received_of p pkt).ppp).sent;
@@ -106,20 +106,20 @@ turn_sends p pkt =
 -- ---- a turn as the code puts it together
 
 module _ (p : Ppp) (pkt : List ℕ) {t : Turned} (et : t ≡ as_turned (received_of p pkt)) where
-  pub turns_refused : {why : Refusal} {r : Turned} → t.outcome ≡ Refused why → r ≡ as_turned (turn_refused p why)
+  pub turns_refused : {why : Refusal} {r : Turned} → t.outcome ≡ Err why → r ≡ as_turned (turn_refused p why)
       → Turns (turn_of p pkt) r.outcome r.echoed r.ppp r.replies
   turns_refused eo er =
       rw (turn_refused_lem p pkt (sym (ap (λ (x : Turned). x.outcome) et) ∙ eo), er) (record { outcome = refl; echoed = refl; ppp = refl; replies = refl })
 
-  pub turns_rested : t.outcome ≡ Done → rests_of t.ppp ≡ true → Turns (turn_of p pkt) t.outcome t.echoed t.ppp t.replies
+  pub turns_rested : t.outcome ≡ Ok tt → rests_of t.ppp ≡ true → Turns (turn_of p pkt) t.outcome t.echoed t.ppp t.replies
   turns_rested eo e =
       let s = rests_still (received_of p pkt).ppp (sym (ap (λ (x : Turned). rests_of x.ppp) et) ∙ e) in
       let o = sym (ap (λ (x : Turned). x.outcome) et) ∙ eo in
       rw (turn_done p pkt o, et, s, append-nil) (record { outcome = o; echoed = refl; ppp = refl; replies = refl })
 
-  pub turns-done : {s : Stepped} {rs : Replies} → t.outcome ≡ Done → s ≡ stepped_as (phase_of t.ppp) → rs ≡ joined t.replies s.replies
-      → Turns (turn_of p pkt) Done t.echoed s.ppp rs
+  pub turns-done : {s : Stepped} {rs : Replies} → t.outcome ≡ Ok tt → s ≡ stepped_as (phase_of t.ppp) → rs ≡ joined t.replies s.replies
+      → Turns (turn_of p pkt) t.outcome t.echoed s.ppp rs
   turns-done {s} eo es er =
       let e : s ≡ stepped_as (phase_of (received_of p pkt).ppp) = es ∙ ap (λ (x : Turned). stepped_as (phase_of x.ppp)) et in
-      rw (turn_done p pkt (sym (ap (λ (x : Turned). x.outcome) et) ∙ eo), er, e, et)
-      (record { outcome = refl; echoed = refl; ppp = refl; replies = join_replies (received_of p pkt).sent _ (omega (arith, (received_sends p pkt).few)) (phase_sends _).few })
+      let o = sym (ap (λ (x : Turned). x.outcome) et) ∙ eo in
+      rw (turn_done p pkt o, er, e, et) (record { outcome = o; echoed = refl; ppp = refl; replies = join_replies (received_of p pkt).sent _ (omega (arith, (received_sends p pkt).few)) (phase_sends _).few })

@@ -11,11 +11,12 @@ use Rattle.laws.proofs.Cases.{apart, by_test, cond_by, cond_all}
 use Rattle.options.specs.declared.lcp.AuthType.{AuthType}
 use Rattle.options.specs.declared.lcp.AuthType.TheVariants as auth_type
 use Rattle.negotiation.specs.declared.auth.Auth as authentication
-use Rattle.phases.specs.declared.ppp.LcpFsm.{LcpFsm}
+use Rattle.options.specs.declared.lcp.Lcp.{Lcp}
+use Rattle.negotiation.specs.declared.option_fsm.OptionFsm.{OptionFsm}
 use Rattle.phases.specs.declared.ppp.Phase.{Phase}
 use Rattle.phases.specs.declared.ppp.Phase.TheVariants.{Dead, Establish, Auth, Network, Open}
 use Rattle.phases.specs.declared.ppp.Ppp.{Ppp}
-use Rattle.options.specs.declared.refusal.Outcome.TheVariants.{Done}
+use Rattle.std.specs.Prelude.{Ok}
 use Rattle.negotiation.specs.declared.states.State.TheVariants.{Closed}
 use Rattle.options.specs.Refusal.{is_done}
 use Rattle.options.specs.Wire.{protocol_in}
@@ -107,7 +108,7 @@ record Heard (p q : Ppp) : Type 0 where
   auth : AuthNear p.auth q.auth
   ipv4cp : Near p.ipv4cp.state q.ipv4cp.state
 
-heard-lcp : (p : Ppp) (a : LcpFsm) → Near p.lcp.state a.state → Heard p (with_lcp p a)
+heard-lcp : (p : Ppp) (a : OptionFsm Lcp) → Near p.lcp.state a.state → Heard p (with_lcp p a)
 heard-lcp p a n = record { phase = refl; opening = refl; lcp = n; auth = auth.near_same p.auth; ipv4cp = λ _. refl }
 
 heard_none : (p : Ppp) → Heard p p
@@ -237,10 +238,10 @@ pub calm_after : {p : Ppp} → Sound p → Calm (phase_of p).ppp
 calm_after {p} s = let r = heard_rests p p (heard_none p) s in calm r.sound r.opened
 
 -- nor does one behind a packet that was not refused
-pub calm_after_turn : {p : Ppp} (pkt : List ℕ) → Sound p → (turn_of p pkt).outcome ≡ Done → Calm (turn_of p pkt).ppp
+pub calm_after_turn : {p : Ppp} (pkt : List ℕ) → Sound p → (turn_of p pkt).outcome ≡ Ok tt → Calm (turn_of p pkt).ppp
 unfolding turn_of
 calm_after_turn {p} pkt s =
     let t = received_of p pkt in
     let r = heard_rests p t.ppp (received-heard p pkt) s in
-    cond_by (λ (x : Turn). x.outcome ≡ Done → Calm x.ppp) (is_done t.outcome) (λ _ _. calm r.sound r.opened)
+    cond_by (λ (x : Turn). x.outcome ≡ Ok tt → Calm x.ppp) (is_done t.outcome) (λ _ _. calm r.sound r.opened)
     (λ e d. absurd (true≢false (sym (ap is_done d) ∙ e)))

@@ -1,17 +1,17 @@
 -- The link's phases (document 01, 'Negotiation'; ppp/mod.rs): a received packet, one phase step, and what shows of the state.
-use Rattle.std.specs.Prelude.{◌≡◌, Bool, true, false, cond, not, ◌&&◌, List, [], ◌++◌, ℕ, ltb, eqb, length}
+use Rattle.std.specs.Prelude.{◌≡◌, Bool, true, false, cond, not, ◌&&◌, List, [], ◌++◌, ℕ, ltb, eqb, length, Result, Ok, Err}
+use Rattle.std.specs.Prelude as prelude
 use Rattle.options.specs.Refusal.{is_done}
 use Rattle.options.specs.Wire.{protocol_in}
 use Rattle.negotiation.specs.Replies.{replies_of}
 use Rattle.options.specs.Lcp.{fresh_lcp}
 use Rattle.options.specs.Ipv4cp.{fresh_ipv4cp, shown, shown_ip}
+use Rattle.negotiation.specs.Wrapping.{lcp_or, ipv4cp_or}
 use Rattle.negotiation.specs.Automaton.{is_closed, is_opened, Reaction, handle_of, protocol_reject_of, opened_fsm}
 use Rattle.negotiation.specs.Credentials.{fits_credentials, credentials_with}
 use Rattle.negotiation.specs.Auth.{auth_with, is_auth_closed, is_auth_opened, AuthReaction, auth_handle_of, opened_auth, closed_auth}
 use Rattle.options.specs.declared.refusal.Refusal.{Refusal}
 use Rattle.options.specs.declared.refusal.Refusal.TheVariants.{NotDead, CredentialsLong, PacketShort}
-use Rattle.options.specs.declared.refusal.Outcome.{Outcome}
-use Rattle.options.specs.declared.refusal.Outcome.TheVariants.{Done, Refused}
 use Rattle.negotiation.specs.declared.replies.Replies.{Replies}
 use Rattle.options.specs.declared.proto.Proto.{Proto}
 use Rattle.options.specs.declared.proto.Proto.TheVariants as proto
@@ -22,15 +22,12 @@ use Rattle.options.specs.declared.ipv4cp.Ipv4cp.{Ipv4cp}
 use Rattle.negotiation.specs.declared.states.State.{State}
 use Rattle.negotiation.specs.declared.states.State.TheVariants.{Closed}
 use Rattle.negotiation.specs.declared.option_fsm.OptionFsm.{OptionFsm}
-use Rattle.negotiation.specs.declared.option_fsm.Handled.{Handled}
+use Rattle.negotiation.specs.declared.replies.Handled.{Handled}
 use Rattle.negotiation.specs.declared.auth.Auth as auth
 use Rattle.phases.specs.declared.ppp.Phase.{Phase}
 use Rattle.phases.specs.declared.ppp.Phase.TheVariants.{Dead, Establish, Auth, Network, Open}
-use Rattle.phases.specs.declared.ppp.LcpFsm.{LcpFsm}
-use Rattle.phases.specs.declared.ppp.Ipv4cpFsm.{Ipv4cpFsm}
 use Rattle.phases.specs.declared.ppp.Ppp.{Ppp}
 use Rattle.phases.specs.declared.ppp.Addresses.{Addresses}
-use Rattle.phases.specs.declared.ppp.Ipv4Status.TheVariants as ipv4_status
 use Rattle.phases.specs.declared.ppp.Status.{Status}
 use Rattle.phases.specs.declared.phase.Stepped.{Stepped}
 use Rattle.phases.specs.declared.ppp.Turned.{Turned}
@@ -56,50 +53,42 @@ with_phase p f = record { phase = f; opening = p.opening; lcp = p.lcp; auth = p.
 abbrev pub with_opening : Ppp → Bool → Ppp
 with_opening p o = record { phase = p.phase; opening = o; lcp = p.lcp; auth = p.auth; ipv4cp = p.ipv4cp }
 
-abbrev pub with_lcp : Ppp → LcpFsm → Ppp
+abbrev pub with_lcp : Ppp → OptionFsm Lcp → Ppp
 with_lcp p a = record { phase = p.phase; opening = p.opening; lcp = a; auth = p.auth; ipv4cp = p.ipv4cp }
 
 abbrev pub with_auth : Ppp → auth.Auth → Ppp
 with_auth p a = record { phase = p.phase; opening = p.opening; lcp = p.lcp; auth = a; ipv4cp = p.ipv4cp }
 
-abbrev pub with_ipv4cp : Ppp → Ipv4cpFsm → Ppp
+abbrev pub with_ipv4cp : Ppp → OptionFsm Ipv4cp → Ppp
 with_ipv4cp p a = record { phase = p.phase; opening = p.opening; lcp = p.lcp; auth = p.auth; ipv4cp = a }
 
 -- an automaton for the step, and back
-abbrev pub lcp_in : LcpFsm → OptionFsm
+abbrev pub lcp_in : OptionFsm Lcp → OptionFsm Proto
 lcp_in a = record { id = a.id; state = a.state; proto = proto.Lcp a.proto }
 
-abbrev pub lcp_or : Proto → Lcp → Lcp
-lcp_or (proto.Lcp p) q = p
-lcp_or (proto.Ipv4cp p) q = q
-
-abbrev pub lcp_out : OptionFsm → LcpFsm → LcpFsm
+abbrev pub lcp_out : OptionFsm Proto → OptionFsm Lcp → OptionFsm Lcp
 lcp_out f a = record { id = f.id; state = f.state; proto = lcp_or f.proto a.proto }
 
-abbrev pub ipv4cp_in : Ipv4cpFsm → OptionFsm
+abbrev pub ipv4cp_in : OptionFsm Ipv4cp → OptionFsm Proto
 ipv4cp_in a = record { id = a.id; state = a.state; proto = proto.Ipv4cp a.proto }
 
-abbrev pub ipv4cp_or : Proto → Ipv4cp → Ipv4cp
-ipv4cp_or (proto.Lcp p) q = q
-ipv4cp_or (proto.Ipv4cp p) q = p
-
-abbrev pub ipv4cp_out : OptionFsm → Ipv4cpFsm → Ipv4cpFsm
+abbrev pub ipv4cp_out : OptionFsm Proto → OptionFsm Ipv4cp → OptionFsm Ipv4cp
 ipv4cp_out f a = record { id = f.id; state = f.state; proto = ipv4cp_or f.proto a.proto }
 
 -- ---- what a call leaves
 
 -- the outcome, whether the packet's code becomes 10, the record, and the packets sent, in order
 pub record Turn : Type 0 where
-  pub outcome : Outcome
+  pub outcome : Result Unit Refusal
   pub echoed : Bool
   pub ppp : Ppp
   pub sent : List (List ℕ)
 
 abbrev pub turn_to : Ppp → List (List ℕ) → Turn
-turn_to p ps = record { outcome = Done; echoed = false; ppp = p; sent = ps }
+turn_to p ps = record { outcome = Ok tt; echoed = false; ppp = p; sent = ps }
 
 abbrev pub turn_refused : Ppp → Refusal → Turn
-turn_refused p why = record { outcome = Refused why; echoed = false; ppp = p; sent = [] }
+turn_refused p why = record { outcome = Err why; echoed = false; ppp = p; sent = [] }
 
 -- ---- a received packet, by its protocol
 
@@ -209,7 +198,7 @@ poll_of p = turn_to (phase_of p).ppp (phase_of p).sent
 abbrev then_phase : Ppp → Turn → Turn
 then_phase p t =
     cond (is_done t.outcome)
-    (record { outcome = Done; echoed = t.echoed; ppp = (phase_of t.ppp).ppp; sent = t.sent ++ (phase_of t.ppp).sent })
+    (record { outcome = Ok tt; echoed = t.echoed; ppp = (phase_of t.ppp).ppp; sent = t.sent ++ (phase_of t.ppp).sent })
     (record { outcome = t.outcome; echoed = false; ppp = p; sent = [] })
 
 -- one received packet, then one phase step; a refusal leaves all as it was
@@ -246,16 +235,20 @@ addresses_of i =
 -- what shows: the addresses only where IPv4CP is Opened
 abbrev pub status_of : Ppp → Status
 status_of p =
-    record { phase = p.phase; ipv4 = cond (is_opened p.ipv4cp.state) (ipv4_status.Up (addresses_of p.ipv4cp.proto)) ipv4_status.Down }
+    record { phase = p.phase; ipv4 = cond (is_opened p.ipv4cp.state) (prelude.Some (addresses_of p.ipv4cp.proto)) prelude.None }
 
 -- ---- as the code holds it
 
 abbrev pub as_turned : Turn → Turned
 as_turned t = record { outcome = t.outcome; echoed = t.echoed; ppp = t.ppp; replies = replies_of t.sent }
 
+-- what a step comes to, where the record p has what it left
+abbrev pub turned_by : {S : Type 0} → Ppp → Handled S → Turned
+turned_by p h = record { outcome = h.outcome; echoed = h.echoed; ppp = p; replies = h.replies }
+
 -- what a step of LCP's automaton comes to
-abbrev pub lcp_taken : Ppp → Handled → Turned
-lcp_taken p h = record { outcome = h.outcome; echoed = h.echoed; ppp = with_lcp p (lcp_out h.fsm p.lcp); replies = h.replies }
+abbrev pub lcp_taken : Ppp → Handled (OptionFsm Proto) → Turned
+lcp_taken p h = turned_by (with_lcp p (lcp_out h.left p.lcp)) h
 
 abbrev pub stepped_as : Step → Stepped
 stepped_as s = record { ppp = s.ppp; replies = replies_of s.sent }
@@ -263,12 +256,12 @@ stepped_as s = record { ppp = s.ppp; replies = replies_of s.sent }
 -- ---- what the calls promise
 
 -- a call that changes the record: its outcome and the record
-pub record Changes (t : Turn) (o : Outcome) (p : Ppp) : Type 0 where
+pub record Changes (t : Turn) (o : Result Unit Refusal) (p : Ppp) : Type 0 where
   pub outcome : o ≡ t.outcome
   pub ppp : p ≡ t.ppp
 
 -- a call that may send: also whether an echo was answered, and the packets
-pub record Turns (t : Turn) (o : Outcome) (e : Bool) (p : Ppp) (rs : Replies) : Type 0 where
+pub record Turns (t : Turn) (o : Result Unit Refusal) (e : Bool) (p : Ppp) (rs : Replies) : Type 0 where
   pub outcome : o ≡ t.outcome
   pub echoed : e ≡ t.echoed
   pub ppp : p ≡ t.ppp

@@ -3,4 +3,3 @@
 
 pub mod phase;
 pub mod ppp;
-mod slots;

@@ -2,10 +2,9 @@
 ghost use Rattle.std.specs.Prelude.{◌≡◌, false, []};
 ghost use Rattle.phases.specs.Phases.{step_to, opens_lcp, opens_ipv4cp, opens_auth, closes_ipv4cp, closes_auth, establish_of, auth_of, network_of, by_phase, dies_of, settled, phase_of, stepped_as, rests_in, rests_of};
 
-use crate::ppp::{Ipv4cpFsm, Phase, Ppp};
-use crate::slots::{ipv4cp_in, ipv4cp_out, lcp_in, lcp_out};
+use crate::ppp::{Phase, Ppp};
 use negotiation::replies::Replies;
-use negotiation::states::{State, is_closed, is_opened};
+use negotiation::states::State;
 use options::lcp::AuthType;
 
 // What a phase step leaves: the record, and at most one packet.
@@ -15,92 +14,19 @@ pub(crate) struct Stepped {
     pub(crate) replies: Replies,
 }
 
-// In Establish it does not count whether authentication is Opened.
-fn establish_rests(l: State, shut: bool, i: State) -> bool
-    ensures { result ≡ rests_in Phase.Establish l shut false i }
-{
-    if is_closed(l) {
-        return false;
-    }
-    if is_opened(l) {
-        return false;
-    }
-    shut && is_closed(i)
-}
-
-// `shut` and `up`: whether authentication is Closed, and whether it is Opened.
+// `shut` and `up`: whether authentication is Closed, and whether it is Opened; in Establish the second does not count.
 fn rests_in(f: Phase, l: State, shut: bool, up: bool, i: State) -> bool
     ensures { result ≡ rests_in f l shut up i }
 {
     match f {
-        Phase::Dead => true,
-        Phase::Establish => establish_rests(l, shut, i),
-        Phase::Auth => !up && is_closed(i),
-        Phase::Network => !is_opened(i),
-        Phase::Open => true,
+        Phase::Dead | Phase::Open => true,
+        Phase::Establish => !l.is_closed() && !l.is_opened() && shut && i.is_closed(),
+        Phase::Auth => !up && i.is_closed(),
+        Phase::Network => !i.is_opened(),
     }
 }
 
 impl Ppp {
-    fn open_lcp(self) -> Stepped
-        ensures { result ≡ stepped_as (opens_lcp self) }
-    {
-        let a = self.lcp;
-        let h = lcp_in(a).open();
-        let f = h.fsm;
-        let r = h.replies;
-        let mut p = self.with_lcp(lcp_out(f, a));
-        p.opening = false;
-        Stepped { ppp: p, replies: r }
-    }
-
-    fn open_ipv4cp(self) -> Stepped
-        ensures { result ≡ stepped_as (opens_ipv4cp self) }
-    {
-        let c = self.ipv4cp;
-        let h = ipv4cp_in(c).open();
-        let f = h.fsm;
-        let r = h.replies;
-        Stepped {
-            ppp: self
-                .with_ipv4cp(ipv4cp_out(f, c))
-                .with_phase(Phase::Network),
-            replies: r,
-        }
-    }
-
-    fn open_auth(self) -> Stepped
-        ensures { result ≡ stepped_as (opens_auth self) }
-    {
-        let b = self.auth;
-        let h = b.open();
-        let q = h.auth;
-        let r = h.replies;
-        Stepped {
-            ppp: self.with_auth(q).with_phase(Phase::Auth),
-            replies: r,
-        }
-    }
-
-    fn close_ipv4cp(self) -> Self
-        ensures { result ≡ closes_ipv4cp self }
-    {
-        let c = self.ipv4cp;
-        let q = c.proto;
-        self.with_ipv4cp(Ipv4cpFsm {
-            id: c.id,
-            state: State::Closed,
-            proto: q,
-        })
-    }
-
-    fn close_auth(self) -> Self
-        ensures { result ≡ closes_auth self }
-    {
-        let b = self.auth;
-        self.with_auth(b.close())
-    }
-
     fn still(self) -> Stepped
         ensures { result ≡ stepped_as (step_to self []) }
     {
@@ -110,24 +36,74 @@ impl Ppp {
         }
     }
 
+    fn open_lcp(self) -> Stepped
+        ensures { result ≡ stepped_as (opens_lcp self) }
+    {
+        let h = self.lcp.wrap().open();
+        Stepped {
+            ppp: Ppp {
+                opening: false,
+                lcp: self.lcp.after(h.left),
+                ..self
+            },
+            replies: h.replies,
+        }
+    }
+
+    fn open_ipv4cp(self) -> Stepped
+        ensures { result ≡ stepped_as (opens_ipv4cp self) }
+    {
+        let h = self.ipv4cp.wrap().open();
+        Stepped {
+            ppp: Ppp {
+                phase: Phase::Network,
+                ipv4cp: self.ipv4cp.after(h.left),
+                ..self
+            },
+            replies: h.replies,
+        }
+    }
+
+    fn open_auth(self) -> Stepped
+        ensures { result ≡ stepped_as (opens_auth self) }
+    {
+        let h = self.auth.open();
+        Stepped {
+            ppp: Ppp {
+                phase: Phase::Auth,
+                auth: h.left,
+                ..self
+            },
+            replies: h.replies,
+        }
+    }
+
+    fn close_ipv4cp(mut self) -> Self
+        ensures { result ≡ closes_ipv4cp self }
+    {
+        self.ipv4cp.state = State::Closed;
+        self
+    }
+
+    fn close_auth(mut self) -> Self
+        ensures { result ≡ closes_auth self }
+    {
+        self.auth = self.auth.close();
+        self
+    }
+
     fn establish(self) -> Stepped
         ensures { result ≡ stepped_as (establish_of self) }
     {
-        let a = self.lcp;
-        let s = a.state;
-        if is_closed(s) {
+        if self.lcp.state.is_closed() {
             let o = self.open_lcp();
-            let p = o.ppp;
-            let r = o.replies;
             return Stepped {
-                ppp: p.close_auth().close_ipv4cp(),
-                replies: r,
+                ppp: o.ppp.close_auth().close_ipv4cp(),
+                ..o
             };
         }
-        if is_opened(s) {
-            let l = a.proto;
-            let auth = l.auth;
-            return match auth {
+        if self.lcp.state.is_opened() {
+            return match self.lcp.proto.auth {
                 AuthType::None => self.open_ipv4cp(),
                 AuthType::Pap => self.open_auth(),
             };
@@ -138,8 +114,7 @@ impl Ppp {
     fn authenticate(self) -> Stepped
         ensures { result ≡ stepped_as (auth_of self) }
     {
-        let b = self.auth;
-        if b.opened() {
+        if self.auth.opened() {
             return self.open_ipv4cp();
         }
         self.close_ipv4cp().still()
@@ -148,10 +123,12 @@ impl Ppp {
     fn network(self) -> Stepped
         ensures { result ≡ stepped_as (network_of self) }
     {
-        let c = self.ipv4cp;
-        let s = c.state;
-        if is_opened(s) {
-            return self.with_phase(Phase::Open).still();
+        if self.ipv4cp.state.is_opened() {
+            return Ppp {
+                phase: Phase::Open,
+                ..self
+            }
+            .still();
         }
         self.still()
     }
@@ -159,22 +136,18 @@ impl Ppp {
     fn by_phase(self) -> Stepped
         ensures { result ≡ stepped_as (by_phase self.phase self) }
     {
-        let f = self.phase;
-        match f {
-            Phase::Dead => self.still(),
+        match self.phase {
             Phase::Establish => self.establish(),
             Phase::Auth => self.authenticate(),
             Phase::Network => self.network(),
-            Phase::Open => self.still(),
+            Phase::Dead | Phase::Open => self.still(),
         }
     }
 
     fn dies(self) -> bool
         ensures { result ≡ dies_of self }
     {
-        let a = self.lcp;
-        let s = a.state;
-        is_closed(s) && !self.opening
+        self.lcp.state.is_closed() && !self.opening
     }
 
     // Where LCP is Closed and is not being opened, the link is dead.
@@ -182,7 +155,10 @@ impl Ppp {
         ensures { result ≡ settled self }
     {
         if self.dies() {
-            return self.with_phase(Phase::Dead);
+            return Ppp {
+                phase: Phase::Dead,
+                ..self
+            };
         }
         self
     }
@@ -191,11 +167,9 @@ impl Ppp {
         ensures { result ≡ stepped_as (phase_of self) }
     {
         let s = self.by_phase();
-        let p = s.ppp;
-        let r = s.replies;
         Stepped {
-            ppp: p.settle(),
-            replies: r,
+            ppp: s.ppp.settle(),
+            ..s
         }
     }
 
@@ -203,12 +177,12 @@ impl Ppp {
     pub fn rests(self) -> bool
         ensures { result ≡ rests_of self }
     {
-        let f = self.phase;
-        let a = self.lcp;
-        let b = self.auth;
-        let c = self.ipv4cp;
-        let l = a.state;
-        let i = c.state;
-        rests_in(f, l, b.closed(), b.opened(), i) && !self.dies()
+        rests_in(
+            self.phase,
+            self.lcp.state,
+            self.auth.closed(),
+            self.auth.opened(),
+            self.ipv4cp.state,
+        ) && !self.dies()
     }
 }

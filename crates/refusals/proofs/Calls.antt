@@ -9,6 +9,7 @@ use native.Mathlib.Omega.{arith}
 use borrow.Author.Tests.{leb-true, leb-false}
 use lib.Dec.{leb}
 use lib.ListN.{length}
+use Rattle.std.specs.Prelude.{Result}
 use Rattle.laws.proofs.Cases.{by_test}
 use Rattle.framing.specs.declared.frame_reader.FrameReader.{FrameReader}
 use Rattle.negotiation.specs.Credentials.{fits_credentials}
@@ -19,7 +20,7 @@ use Rattle.phases.specs.declared.ppp.Ppp.{Ppp}
 use Rattle.phases.specs.declared.ppp.Status.{Status}
 use Rattle.negotiation.proofs.CredentialLaws.{fits_sum, unfit_sum}
 use Rattle.framing.specs.Refusal as framing
-use Rattle.framing.specs.declared.refusal.Outcome as framed
+use Rattle.framing.specs.declared.refusal.Refusal as framed
 use Rattle.options.specs.Refusal as negotiated
 use Rattle.link.specs.Refusal.{outcome_number}
 use Rattle.framing.specs.Drops.{dropped}
@@ -28,7 +29,7 @@ use Rattle.link.specs.Link.{link_of, held_by, Consumes, ip_frame, remote_map, Se
 use Rattle.status_lines.specs.Lines.{lines_of, Shows}
 use Rattle.refusals.specs.Framing.{consume_rows}
 use Rattle.refusals.specs.Table.{empty_ppp, new_rows, open_rows, send_rows, lines_rows}
-use Rattle.link.specs.declared.refusal.Outcome.{Outcome}
+use Rattle.link.specs.declared.refusal.Refusal.{Refusal}
 use Rattle.link.specs.declared.pppos.PPPoS.{PPPoS}
 use Rattle.refusals.proofs.Rows.{First}
 use Rattle.refusals.proofs.FramingCalls.{lays_right, consume_right}
@@ -62,21 +63,21 @@ open_first p l number same =
 
 -- ---- consume
 
-pub consume-first : (l : PPPoS) (rx bs : List ℕ) {o : Outcome} {n : ℕ} {d : Drops} {l' : PPPoS} {rx' : List ℕ} → Consumes l rx bs o n l' rx' → d ≡ dropped (held_by l rx) bs
-    → First (outcome_number o) (record { count = n; drops = d; kept = l'; rx = rx' }) (consume_rows l.frame_reader.len l rx)
+pub consume-first : (l : PPPoS) (rx bs : List ℕ) {t : Result ℕ Refusal} {d : Drops} {l' : PPPoS} {rx' : List ℕ} → Consumes l rx bs t l' rx' → d ≡ dropped (held_by l rx) bs
+    → First (outcome_number t) (record { count = framing.count_of t; drops = d; kept = l'; rx = rx' }) (consume_rows l.frame_reader.len l rx)
 consume-first l rx bs c d =
     consume_right (held_by l rx) bs l c.number c.count d (λ e. c.link ∙ ap (λ (r : FrameReader). link_of r l.ppp) e) c.bytes
 
 -- ---- send
 
-pub send-first : (l : PPPoS) (pkt tx : List ℕ) {o : Outcome} {n : ℕ} {tx' : List ℕ} → Sends l pkt tx o n tx'
-    → First (outcome_number o) (record { count = n; bytes = tx' }) (send_rows l pkt tx)
+pub send-first : (l : PPPoS) (pkt tx : List ℕ) {r : Result ℕ Refusal} {tx' : List ℕ} → Sends l pkt tx r tx'
+    → First (outcome_number r) (record { count = framing.count_of r; bytes = tx' }) (send_rows l pkt tx)
 send-first l pkt tx c = (lays_right (remote_map l) (ip_frame pkt) tx c.number c.lays).first
 
 -- ---- status lines
 
-pub lines_first : (s : Status) (buf : List ℕ) {o : framed.Outcome} {n : ℕ} {buf' : List ℕ} → Shows s buf o n buf'
-    → First (framing.outcome_number o) (record { count = n; bytes = buf' }) (lines_rows (lines_of s) buf)
+pub lines_first : (s : Status) (buf : List ℕ) {r : Result ℕ framed.Refusal} {buf' : List ℕ} → Shows s buf r buf'
+    → First (framing.outcome_number r) (record { count = framing.count_of r; bytes = buf' }) (lines_rows (lines_of s) buf)
 lines_first s buf c =
     by_test (leb (length (lines_of s)) (length buf))
     (λ e. inr ((λ h. omega (arith, leb-true (length (lines_of s)) (length buf) e)), c.number ∙ rw e refl))

@@ -1,7 +1,7 @@
 -- A received packet is refused exactly for the causes that the table gives, and tells the offset that it says.
 -- Assumes nothing.
 use mathlib.Core.Path.{◌≡◌, refl, ap, sym, ◌∙◌}
-use mathlib.Core.Bool.{Bool, true, false, ◌&&◌, true≢false, false≢true}
+use mathlib.Core.Bool.{Bool, true, false, ◌&&◌, true≢false}
 use mathlib.Core.List.{List, []}
 use mathlib.Core.Logic.{◌⊎◌, inl, inr}
 use Prim.Native.Nat.{ℕ, ◌+◌, ◌≤◌, ◌<◌}
@@ -10,21 +10,23 @@ use borrow.Author.Tests.{ltb-true, ltb-false, eqb-true, eqb-false, lt-ltb, le-lt
 use lib.Dec.{eqb, ltb}
 use lib.ListN.{length, take, drop, get_or, length-drop}
 use lib.Seq.{length-take-le}
+use Rattle.std.specs.Prelude.{Result, Ok, Err}
 use Rattle.laws.proofs.Cases.{by_test, by_le, cond_all, cond_by}
 use Rattle.options.specs.Wire.{max_packet}
 use Rattle.options.specs.Refusal.{outcome_number, outcome_values}
 use Rattle.options.specs.Options.{walk_of}
 use Rattle.options.specs.Proto.{start_of, nacks_of}
 use Rattle.options.specs.Reply.{fresh_reply, reply_of}
+use Rattle.negotiation.proofs.StateTable.{is_opened_lem}
 use Rattle.negotiation.specs.Automaton.{is_closed, is_opened, ack_resends, Reaction, unless, requested, ack_of, replied_of, req_with, req_of, nack_with, nack_of, term_ack_of, ignore_of, echo_of, act_of, handle_of, protocol_reject_of}
 use Rattle.negotiation.specs.Pap.{is_pap_sent, PapReaction, pap_requested, pap_act_of, pap_handle_of}
 use Rattle.negotiation.specs.Auth.{auth_handle_of}
 use Rattle.phases.specs.Phases.{lcp_in, ipv4cp_in, Turn, reject_of, received_of}
+use Rattle.options.specs.declared.proto.Proto.{Proto}
 use Rattle.negotiation.specs.declared.option_fsm.OptionFsm.{OptionFsm}
 use Rattle.negotiation.specs.declared.auth.Auth.{Auth}
 use Rattle.phases.specs.declared.ppp.Ppp.{Ppp}
-use Rattle.options.specs.declared.refusal.Outcome.{Outcome}
-use Rattle.options.specs.declared.refusal.Outcome.TheVariants.{Done, Refused}
+use Rattle.options.specs.declared.refusal.Refusal.{Refusal}
 use Rattle.options.specs.declared.refusal.Refusal.TheVariants.{ConfigureShort as ShortConfigure, EchoEmpty as EmptyEcho, PapPast as LengthPast, OptionCut, ReplyLong as LongReply}
 use Rattle.negotiation.specs.Messages.{max_rejected}
 use Rattle.negotiation.specs.declared.states.State.{State}
@@ -41,14 +43,7 @@ not_closed AckReceived h = refl
 not_closed AckSent h = refl
 not_closed Opened h = refl
 
-opened_is : (s : State) → is_opened s ≡ true → s ≡ Opened
-opened_is Closed e = absurd (false≢true e)
-opened_is ReqSent e = absurd (false≢true e)
-opened_is AckReceived e = absurd (false≢true e)
-opened_is AckSent e = absurd (false≢true e)
-opened_is Opened e = refl
-
-abbrev fsm_for : Which → Ppp → OptionFsm
+abbrev fsm_for : Which → Ppp → OptionFsm Proto
 fsm_for lcp p = lcp_in p.lcp
 fsm_for ipv4cp p = ipv4cp_in p.ipv4cp
 
@@ -62,13 +57,13 @@ fsm_kind ipv4cp p = refl
 
 -- ---- the outcome of a step
 
-unless_outcome : (o : Outcome) (f : OptionFsm) (t : Reaction) → t.outcome ≡ Done → (unless o f t).outcome ≡ o
-unless_outcome Done f t e = e
-unless_outcome (Refused why) f t e = refl
+unless_outcome : (o : Result Unit Refusal) (f : OptionFsm Proto) (t : Reaction) → t.outcome ≡ (Ok tt) → (unless o f t).outcome ≡ o
+unless_outcome (Ok tt) f t e = e
+unless_outcome (Err why) f t e = refl
 
-module _ (f : OptionFsm) where
+module _ (f : OptionFsm Proto) where
   module _ (i : ℕ) (q : List ℕ) where
-    req_short : length q < 6 → (req_of f i q).outcome ≡ Refused ShortConfigure
+    req_short : length q < 6 → (req_of f i q).outcome ≡ Err ShortConfigure
     unfolding req_of
     req_short h = rw (lt-ltb _ _ h) refl
 
@@ -77,10 +72,10 @@ module _ (f : OptionFsm) where
     req_outcome h =
         let r = reply_of (fresh_reply (start_of f.proto)) (walk_of (drop 6 q)) in
         rw (le-ltb _ _ h)
-        (unless_outcome r.outcome f (replied_of f i r) (cond_all (λ (t : Reaction). t.outcome ≡ Done) (is_opened f.state) refl refl))
+        (unless_outcome r.outcome f (replied_of f i r) (cond_all (λ (t : Reaction). t.outcome ≡ (Ok tt)) (is_opened f.state) refl refl))
 
   module _ (rej : Bool) (q : List ℕ) where
-    nack_short : length q < 6 → (nack_of f rej q).outcome ≡ Refused ShortConfigure
+    nack_short : length q < 6 → (nack_of f rej q).outcome ≡ Err ShortConfigure
     unfolding nack_of
     nack_short h = rw (lt-ltb _ _ h) refl
 
@@ -106,19 +101,19 @@ module _ (f : OptionFsm) where
   act_echo i q = refl
 
   module _ (q : List ℕ) (h : is_opened f.state ≡ true) where
-    echo_empty_lem : length q < 3 → (echo_of f q).outcome ≡ Refused EmptyEcho
+    echo_empty_lem : length q < 3 → (echo_of f q).outcome ≡ Err EmptyEcho
     unfolding echo_of
     echo_empty_lem l = rw (h, lt-ltb _ _ l) refl
 
-    echo-long : 3 ≤ length q → max_packet < length q → (echo_of f q).outcome ≡ Refused LongReply
+    echo-long : 3 ≤ length q → max_packet < length q → (echo_of f q).outcome ≡ Err LongReply
     unfolding echo_of
     echo-long l m = rw (h, le-ltb _ _ l, lt-ltb _ _ m) refl
 
-    echo_fine : 3 ≤ length q → length q ≤ max_packet → (echo_of f q).outcome ≡ Done
+    echo_fine : 3 ≤ length q → length q ≤ max_packet → (echo_of f q).outcome ≡ (Ok tt)
     unfolding echo_of
     echo_fine l m = rw (h, le-ltb _ _ l, le-ltb _ _ m) refl
 
-  echo_elsewhere : (q : List ℕ) → is_opened f.state ≡ false → (echo_of f q).outcome ≡ Done
+  echo_elsewhere : (q : List ℕ) → is_opened f.state ≡ false → (echo_of f q).outcome ≡ (Ok tt)
   unfolding echo_of ignore_of
   echo_elsewhere q h = rw h refl
 
@@ -127,15 +122,15 @@ module _ (f : OptionFsm) where
 -- refused past the packet, and nowhere else
 abbrev pub PapBy : Auth → List ℕ → Type 0
 PapBy a pkt =
-    (PapPast pkt × (auth_handle_of a pkt ≡ record { outcome = Refused LengthPast; auth = a; sent = [] }))
-    ⊎ ((PapPast pkt → ⊥) × ((auth_handle_of a pkt).outcome ≡ Done))
+    (PapPast pkt × (auth_handle_of a pkt ≡ record { outcome = Err LengthPast; auth = a; sent = [] }))
+    ⊎ ((PapPast pkt → ⊥) × ((auth_handle_of a pkt).outcome ≡ (Ok tt)))
 
 pub pap_by : (a : Auth) (pkt : List ℕ) → PapBy a pkt
 unfolding auth_handle_of pap_handle_of pap_act_of pap_requested
 pap_by a pkt =
     let s = is_pap_sent a.pap.state in
     let c = code_at pkt in
-    let P : PapReaction → Type 0 = λ t. t.outcome ≡ Done in
+    let P : PapReaction → Type 0 = λ t. t.outcome ≡ (Ok tt) in
     by_le 6 (length pkt)
     (λ h. by_le (length_at pkt) (length pkt)
     (λ l. by_le (length_at pkt + 2) (length pkt)
@@ -217,7 +212,7 @@ module _ (p : Ppp) (pkt : List ℕ) where
       rw (heeded k p, act_req f _ (body_of pkt) (closed_not w n)) (req_outcome f (get_or pkt 3 0) (body_of pkt) l)
 
   answer_outcome : (w : Which) (c : ℕ) → Heeded w c pkt → (c ≡ 3) ⊎ (c ≡ 4) → (state_for w p ≡ Closed → ⊥) → {at : ℕ} → Broken (data_at pkt) at
-      → (received_of p pkt).outcome ≡ Refused (OptionCut at)
+      → (received_of p pkt).outcome ≡ Err (OptionCut at)
   answer_outcome w c k (inl e) n x =
       let f = fsm_for w p in
       let l : 6 ≤ length (body_of pkt) = omega (arith, broken_some x, length-drop 6 (body_of pkt)) in
@@ -232,7 +227,7 @@ module _ (p : Ppp) (pkt : List ℕ) where
       ap outcome_number (request_outcome w k n (fault_some x)) ∙ request_refused (fsm_for w p).proto (data_at pkt) (rw (fsm_kind w p) x)
   option_refused (OptionFault.answer w c k e n x) = ap outcome_number (answer_outcome w c k e n x)
 
-  points : {o : Outcome} → (received_of p pkt).outcome ≡ o → Told (data_at pkt) o → Points (data_at pkt) (outcome_values (received_of p pkt).outcome)
+  points : {o : Result Unit Refusal} → (received_of p pkt).outcome ≡ o → Told (data_at pkt) o → Points (data_at pkt) (outcome_values (received_of p pkt).outcome)
   points e t =
       record {
         offset = t.offset;
@@ -298,7 +293,7 @@ module _ (p : Ppp) (pkt : List ℕ) (w : Which) where
         (λ h. rw (nack_outcome (fsm_for w p) rej (body_of pkt) h) (go _ refl (answer_found rej (fsm_for w p).proto (data_at pkt))))
         (λ h. rw (nack_short (fsm_for w p) rej (body_of pkt) h) (configure_short (ConfigureShort.configure w c k (inr e) n (omega (arith, length_body k)))))
       where
-        go : (o : Outcome) → o ≡ (nacks_of rej (fsm_for w p).proto (walk_of (data_at pkt))).outcome → Ended (data_at pkt) o → Cause p pkt (outcome_number o)
+        go : (o : Result Unit Refusal) → o ≡ (nacks_of rej (fsm_for w p).proto (walk_of (data_at pkt))).outcome → Ended (data_at pkt) o → Cause p pkt (outcome_number o)
         go o z (taken e) = rw e fine
         go o z (cut_at b) = rw (z, answer_refused rej (fsm_for w p).proto (data_at pkt) b) (option (OptionFault.answer w c k e n b))
 
@@ -307,7 +302,7 @@ module _ (p : Ppp) (pkt : List ℕ) (w : Which) where
       let f = fsm_for w p in
       let q = body_of pkt in
       by_test (is_opened f.state)
-      (λ s. let o = sym (fsm_state w p) ∙ opened_is f.state s in
+      (λ s. let o = sym (fsm_state w p) ∙ is_opened_lem f.state s in
       by_le 3 (length q)
       (λ h. by_le (length q) max_packet (λ l. rw (echo_fine f q s h l) fine)
       (λ l. rw (echo-long f q s h l) (reply_long (ReplyLong.echo w k o (omega (arith, length_body k))))))

@@ -10,6 +10,7 @@ use native.Mathlib.Omega.{arith}
 use borrow.Author.Tests.{eqb-true, ltb-true, ltb-false, lt-ltb, le-ltb}
 use lib.Dec.{eqb, ltb}
 use lib.ListN.{length, take, drop, get_or, length-drop}
+use Rattle.std.specs.Prelude.{Option, None, Result, Ok, Err}
 use Rattle.laws.specs.Same.{same}
 use Rattle.laws.proofs.Cases.{by_test, by_le}
 use Rattle.options.specs.Refusal.{outcome_number, outcome_values}
@@ -17,15 +18,12 @@ use Rattle.options.specs.Options.{cut, opt, walk_from, walk_of, sent_back}
 use Rattle.options.specs.Lcp.{suggestion_lcp}
 use Rattle.options.specs.Proto.{start_of, suggestion_of, judge_of, own_nacked, nacks_of}
 use Rattle.options.specs.Reply.{rank_of, fresh_reply, step_of, reply_of}
-use Rattle.options.specs.declared.walk.Parsed.{Parsed}
-use Rattle.options.specs.declared.walk.Parsed.TheVariants as parsed
+use Rattle.options.specs.declared.walk.Head as option
 use Rattle.options.specs.declared.walk.Reply.{Reply}
 use Rattle.options.specs.declared.proto.Proto.{Proto}
 use Rattle.options.specs.declared.proto.Proto.TheVariants.{Lcp, Ipv4cp}
 use Rattle.options.specs.declared.proto.Verdict.{Verdict}
 use Rattle.options.specs.declared.proto.Verdict.TheVariants.{Ack, Nack, Rej}
-use Rattle.options.specs.declared.refusal.Outcome.{Outcome}
-use Rattle.options.specs.declared.refusal.Outcome.TheVariants.{Done, Refused}
 use Rattle.options.specs.declared.refusal.Refusal.{Refusal}
 use Rattle.options.specs.declared.refusal.Refusal.TheVariants.{OptionCut, OptionLong, OptionsMany}
 use Rattle.options.proofs.Replying.{listed_lower, listed_long, listed_higher, listed_many, listed_more}
@@ -60,7 +58,7 @@ size_back_lem p Rej d = refl
 
 -- a reply that goes on, with so many options listed of the verdict top
 record At (w : Which) (top listed : ℕ) (r : Reply) : Type 0 where
-  done : r.outcome ≡ Done
+  done : r.outcome ≡ (Ok tt)
   kind : kind_of r.proto ≡ w
   rank : rank_of r.verdict ≡ top
   count : r.count ≡ listed
@@ -96,7 +94,7 @@ module _ {w : Which} {top listed : ℕ} {r : Reply} (i : At w top listed r) (c :
       rw (listed_lower r _ verdict c value (omega (arith, ranked, i.rank)))
       (record { done = i.done; kind = kinded; rank = i.rank; count = i.count })
 
-  step-long : top ≤ verdict_for w c d → 4 < size_back (verdict_for w c d) d → (step_of r c d).outcome ≡ Refused OptionLong
+  step-long : top ≤ verdict_for w c d → 4 < size_back (verdict_for w c d) d → (step_of r c d).outcome ≡ Err OptionLong
   unfolding step_of verdict value
   step-long h k = rw (listed_long r _ verdict c value (omega (arith, ranked, i.rank)) (long k)) refl
 
@@ -106,7 +104,7 @@ module _ {w : Which} {top listed : ℕ} {r : Reply} (i : At w top listed r) (c :
       rw (listed_higher r _ verdict c value (omega (arith, ranked, i.rank)) (short k))
       (record { done = refl; kind = kinded; rank = ranked; count = refl })
 
-  step-many : top ≡ verdict_for w c d → size_back (verdict_for w c d) d ≤ 4 → 6 ≤ listed → (step_of r c d).outcome ≡ Refused OptionsMany
+  step-many : top ≡ verdict_for w c d → size_back (verdict_for w c d) d ≤ 4 → 6 ≤ listed → (step_of r c d).outcome ≡ Err OptionsMany
   unfolding step_of verdict value
   step-many h k m =
       rw (listed_many r _ verdict c value (i.rank ∙ h ∙ sym ranked) (short k) (omega (arith, i.count))) refl
@@ -119,8 +117,8 @@ module _ {w : Which} {top listed : ℕ} {r : Reply} (i : At w top listed r) (c :
 
 -- ---- the walk
 
-cut_by : (t u v : Bool) (x : Parsed) → (t ≡ true) ⊎ ((v ≡ true) ⊎ (u ≡ true))
-    → cond t parsed.Cut (cond u parsed.Cut (cond v parsed.Cut x)) ≡ parsed.Cut
+cut_by : (t u v : Bool) (x : Option option.Head) → (t ≡ true) ⊎ ((v ≡ true) ⊎ (u ≡ true))
+    → cond t None (cond u None (cond v None x)) ≡ None
 cut_by true u v x h = refl
 cut_by false true v x h = refl
 cut_by false false true x h = refl
@@ -140,7 +138,7 @@ cut_walk at s k = walk_cut at s k.some (cut_by (ltb (length s) 2) (ltb (length s
 whole_walk : (at : ℕ) {s : List ℕ} {c : ℕ} {d rest : List ℕ} → Whole s c d rest → walk_from at s ≡ opt c d (walk_from (at + get_or s 1 0) rest)
 whole_walk at {s} k =
     rw (k.type, k.value, k.behind)
-    (walk_opt at s (get_or s 0 0) (get_or s 1 0) (omega (arith, k.header))
+    (walk_opt at s (record { code = get_or s 0 0; len = get_or s 1 0 }) (omega (arith, k.header))
     (rw (le-ltb (length s) 2 k.header, le-ltb (length s) (get_or s 1 0) k.most, le-ltb (get_or s 1 0) 2 k.least) refl))
 
 -- a list of options is at its end, cut, or begins with a whole option
@@ -170,16 +168,16 @@ reply_ended r at s h = rw (walk_done at s h) refl
 
 -- the ways on from a reply r with the options s to come
 module _ (r : Reply) (at : ℕ) {s : List ℕ} where
-  reply_cut : Cut s → (reply_of r (walk_from at s)).outcome ≡ Refused (OptionCut at)
+  reply_cut : Cut s → (reply_of r (walk_from at s)).outcome ≡ Err (OptionCut at)
   unfolding reply_of
   reply_cut k = rw (cut_walk at s k) refl
 
   module _ {c : ℕ} {d rest : List ℕ} (k : Whole s c d rest) where
-    reply_refused : {why : Refusal} → (step_of r c d).outcome ≡ Refused why → (reply_of r (walk_from at s)).outcome ≡ Refused why
+    reply_refused : {why : Refusal} → (step_of r c d).outcome ≡ Err why → (reply_of r (walk_from at s)).outcome ≡ Err why
     unfolding reply_of
     reply_refused e = rw (whole_walk at k, e) refl
 
-    reply_on : (step_of r c d).outcome ≡ Done → reply_of r (walk_from at s) ≡ reply_of (step_of r c d) (walk_from (at + get_or s 1 0) rest)
+    reply_on : (step_of r c d).outcome ≡ (Ok tt) → reply_of r (walk_from at s) ≡ reply_of (step_of r c d) (walk_from (at + get_or s 1 0) rest)
     unfolding reply_of
     reply_on e = rw (whole_walk at k, e) refl
 
@@ -187,34 +185,34 @@ module _ (r : Reply) (at : ℕ) {s : List ℕ} where
 abbrev refused_with : Reply → ℕ → List ℕ → ℕ
 refused_with r at s = outcome_number (reply_of r (walk_from at s)).outcome
 
-on_number : (r : Reply) (at : ℕ) {s : List ℕ} {c : ℕ} {d rest : List ℕ} (k : Whole s c d rest) → (step_of r c d).outcome ≡ Done
+on_number : (r : Reply) (at : ℕ) {s : List ℕ} {c : ℕ} {d rest : List ℕ} (k : Whole s c d rest) → (step_of r c d).outcome ≡ (Ok tt)
     → refused_with r at s ≡ refused_with (step_of r c d) (at + get_or s 1 0) rest
 on_number r at k e = ap (λ (q : Reply). outcome_number q.outcome) (reply_on r at k e)
 
 -- the refusal of the options s, of which the first is at offset at
-data Stops (s : List ℕ) (at : ℕ) : ℕ → Outcome → Type 0 where
-  at_cut : {m k : ℕ} → Broken s k → m ≡ at + k → Stops s at 7 (Refused (OptionCut m))
-  at_long : Stops s at 8 (Refused OptionLong)
-  at_many : Stops s at 9 (Refused OptionsMany)
+data Stops (s : List ℕ) (at : ℕ) : ℕ → Result Unit Refusal → Type 0 where
+  at_cut : {m k : ℕ} → Broken s k → m ≡ at + k → Stops s at 7 (Err (OptionCut m))
+  at_long : Stops s at 8 (Err OptionLong)
+  at_many : Stops s at 9 (Err OptionsMany)
 
-stops_number : {s : List ℕ} {at n : ℕ} {o : Outcome} → Stops s at n o → outcome_number o ≡ n
+stops_number : {s : List ℕ} {at n : ℕ} {o : Result Unit Refusal} → Stops s at n o → outcome_number o ≡ n
 stops_number (at_cut b e) = refl
 stops_number at_long = refl
 stops_number at_many = refl
 
 -- an outcome that tells where the options s are cut
-pub record Told (s : List ℕ) (o : Outcome) : Type 0 where
+pub record Told (s : List ℕ) (o : Result Unit Refusal) : Type 0 where
   pub offset : ℕ
   pub first : Broken s offset
   pub values : outcome_values o ≡ offset ∷ []
 
-stops_told : {s : List ℕ} {n : ℕ} {o : Outcome} → Stops s 0 n o → n ≡ 7 → Told s o
+stops_told : {s : List ℕ} {n : ℕ} {o : Result Unit Refusal} → Stops s 0 n o → n ≡ 7 → Told s o
 stops_told (at_cut {k = k} b z) e = record { offset = k; first = b; values = ap (λ (m : ℕ). m ∷ []) (z ∙ zero-add k) }
 stops_told at_long e = absurd (omega arith)
 stops_told at_many e = absurd (omega arith)
 
 -- behind a whole option
-stops_later : {s : List ℕ} {at n : ℕ} {o : Outcome} {c : ℕ} {d rest : List ℕ} → Whole s c d rest → Stops rest (at + get_or s 1 0) n o → Stops s at n o
+stops_later : {s : List ℕ} {at n : ℕ} {o : Result Unit Refusal} {c : ℕ} {d rest : List ℕ} → Whole s c d rest → Stops rest (at + get_or s 1 0) n o → Stops s at n o
 stops_later {s} {at} w (at_cut {k = k} b e) = at_cut (Broken.later _ _ _ w b) (e ∙ add_assoc at (get_or s 1 0) k)
 stops_later w at_long = at_long
 stops_later w at_many = at_many
@@ -310,19 +308,19 @@ broken_some (Broken.later c d rest k f) = omega (arith, k.header)
 -- ---- a Nack or a Rej
 
 -- a list is taken whole, or it is cut somewhere
-pub data Ended (s : List ℕ) (o : Outcome) : Type 0 where
-  taken : o ≡ Done → Ended s o
+pub data Ended (s : List ℕ) (o : Result Unit Refusal) : Type 0 where
+  taken : o ≡ (Ok tt) → Ended s o
   cut_at : {n : ℕ} → Broken s n → Ended s o
 
 module _ (rej : Bool) where
-  abbrev nacked : Proto → ℕ → List ℕ → Outcome
+  abbrev nacked : Proto → ℕ → List ℕ → Result Unit Refusal
   nacked p at s = (nacks_of rej p (walk_from at s)).outcome
 
-  nacks_cut : (p : Proto) (at : ℕ) {s : List ℕ} → Cut s → nacked p at s ≡ Refused (OptionCut at)
+  nacks_cut : (p : Proto) (at : ℕ) {s : List ℕ} → Cut s → nacked p at s ≡ Err (OptionCut at)
   unfolding nacks_of
   nacks_cut p at {s} k = rw (nacked, cut_walk at s k) refl
 
-  nacks_ended : (p : Proto) (at : ℕ) (s : List ℕ) → length s ≤ 0 → nacked p at s ≡ Done
+  nacks_ended : (p : Proto) (at : ℕ) (s : List ℕ) → length s ≤ 0 → nacked p at s ≡ (Ok tt)
   unfolding nacks_of
   nacks_ended p at s h = rw (nacked, walk_done at s h) refl
 
@@ -331,10 +329,10 @@ module _ (rej : Bool) where
   unfolding nacks_of
   nacks_on p at k = rw (nacked, whole_walk at k) refl
 
-  broken_refused : {s : List ℕ} {n : ℕ} → Broken s n → (p : Proto) (at : ℕ) → nacked p at s ≡ Refused (OptionCut (at + n))
-  broken_refused (Broken.now k) p at = nacks_cut p at k ∙ ap (λ (m : ℕ). Refused (OptionCut m)) (sym (add-zero at))
+  broken_refused : {s : List ℕ} {n : ℕ} → Broken s n → (p : Proto) (at : ℕ) → nacked p at s ≡ Err (OptionCut (at + n))
+  broken_refused (Broken.now k) p at = nacks_cut p at k ∙ ap (λ (m : ℕ). Err (OptionCut m)) (sym (add-zero at))
   broken_refused {s} (Broken.later {n = n} c d rest k f) p at =
-      nacks_on p at k ∙ broken_refused f (own_nacked p c d rej) (at + get_or s 1 0) ∙ ap (λ (m : ℕ). Refused (OptionCut m)) (add_assoc at (get_or s 1 0) n)
+      nacks_on p at k ∙ broken_refused f (own_nacked p c d rej) (at + get_or s 1 0) ∙ ap (λ (m : ℕ). Err (OptionCut m)) (add_assoc at (get_or s 1 0) n)
 
   broken_found : (n : ℕ) (s : List ℕ) → length s ≤ n → (p : Proto) (at : ℕ) → Ended s (nacked p at s)
   broken_found zero s b p at = taken (nacks_ended p at s b)
@@ -350,12 +348,12 @@ module _ (rej : Bool) where
       by_head (whole c d rest k l) rec = on k (rec rest l (own_nacked p c d rej) (at + get_or s 1 0))
 
   module _ (p : Proto) (s : List ℕ) where
-    pub answer_refused : {n : ℕ} → Broken s n → (nacks_of rej p (walk_of s)).outcome ≡ Refused (OptionCut n)
-    answer_refused {n} f = broken_refused f p 0 ∙ ap (λ (m : ℕ). Refused (OptionCut m)) (zero-add n)
+    pub answer_refused : {n : ℕ} → Broken s n → (nacks_of rej p (walk_of s)).outcome ≡ Err (OptionCut n)
+    answer_refused {n} f = broken_refused f p 0 ∙ ap (λ (m : ℕ). Err (OptionCut m)) (zero-add n)
 
     pub answer_found : Ended s (nacks_of rej p (walk_of s)).outcome
     answer_found = broken_found (length s) s (omega arith) p 0
 
     -- one place is the first
     pub broken_one : {m n : ℕ} → Broken s m → Broken s n → m ≡ n
-    broken_one f g = ap (λ (o : Outcome). get_or (outcome_values o) 0 0) (sym (answer_refused f) ∙ answer_refused g)
+    broken_one f g = ap (λ (o : Result Unit Refusal). get_or (outcome_values o) 0 0) (sym (answer_refused f) ∙ answer_refused g)

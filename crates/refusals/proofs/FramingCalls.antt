@@ -11,19 +11,19 @@ use borrow.Author.Tests.{ne_eqb, leb-true, leb-false, ltb-true, ltb-false}
 use lib.Dec.{eqb, leb, ltb}
 use lib.ListN.{length}
 use lib.Seq.{sets, sets-eq}
+use Rattle.std.specs.Prelude.{Result}
 use Rattle.laws.proofs.Cases.{by_test}
 use Rattle.laws.proofs.Stores.{sets_front}
 use Rattle.framing.specs.Rfc1662.{frame}
 use Rattle.framing.specs.Refusal.{outcome_number}
 use Rattle.framing.specs.Writer.{write, Ran, fit, over, lent, holds, Writes, Lays}
-use Rattle.framing.specs.Reader.{Held, is_short, is_complete, consumed, got_number, Receives}
+use Rattle.framing.specs.Reader.{Held, is_short, is_complete, consumed, Got, Receives}
 use Rattle.framing.specs.Drops.{dropped}
 use Rattle.framing.specs.declared.drops.Drops.{Drops}
 use Rattle.framing.proofs.Dropping.{dropped_short}
-use Rattle.framing.specs.declared.refusal.Outcome.{Outcome}
+use Rattle.framing.specs.declared.refusal.Refusal.{Refusal}
 use Rattle.framing.specs.declared.frame_writer.FrameWriter.{FrameWriter}
 use Rattle.framing.specs.declared.frame_reader.FrameReader.{FrameReader}
-use Rattle.framing.specs.declared.frame_reader.Got.{Got}
 use Rattle.framing.specs.declared.frame_reader.State.{State}
 use Rattle.framing.specs.declared.frame_reader.State.TheVariants.{Start, Address, Data, Complete}
 use Rattle.framing.proofs.Run.{write_closed, fit_all, fit_le}
@@ -41,7 +41,7 @@ pub record Right {A : Type 0} (rows : List (Row A)) (whole : A) (n : ℕ) (a : A
 
 -- ---- the writer
 
-module _ (us : List (List ℕ)) (full crc : ℕ) (w : FrameWriter) (buf : List ℕ) {o : Outcome} {w' : FrameWriter} {buf' : List ℕ} (c : Writes us full crc w buf o w' buf') where
+module _ (us : List (List ℕ)) (full crc : ℕ) (w : FrameWriter) (buf : List ℕ) {o : Result Unit Refusal} {w' : FrameWriter} {buf' : List ℕ} (c : Writes us full crc w buf o w' buf') where
   abbrev call : Writing
   call = record { units = us; refused = full; done = crc }
 
@@ -149,7 +149,7 @@ complete_is Address e = absurd (false≢true e)
 complete_is Data e = absurd (false≢true e)
 complete_is Complete e = refl
 
-pub receive_right : (r : FrameReader) {g : Got} {r' : FrameReader} → Receives r g r' → First (got_number g) r' (receive_rows r)
+pub receive_right : (r : FrameReader) {g : Got} {r' : FrameReader} → Receives r g r' → First (outcome_number g) r' (receive_rows r)
 receive_right r c =
     by_test (is_complete r.state)
     (λ e. by_test (ltb r.len 3)

@@ -9,14 +9,17 @@ use native.Mathlib.Omega.{arith}
 use borrow.Author.Tests.{eqb-true, eqb-false, le-leb, leb-true, leb-false}
 use lib.Dec.{eqb}
 use lib.ListN.{length}
+use Rattle.std.specs.Prelude.{Result, Ok, Err}
 use Rattle.laws.proofs.Cases.{by_le, by_test}
 use Rattle.framing.specs.Rfc1662.{frame}
 use Rattle.framing.specs.Writer.{holds}
+use Rattle.framing.specs.Refusal.{count_of}
 use Rattle.negotiation.specs.declared.states.State.TheVariants.{Opened}
 use Rattle.link.specs.Link.{remote_map, ip_frame}
 use Rattle.link.specs.declared.pppos.PPPoS.{PPPoS}
 use Rattle.outbox.specs.Refusal.{outcome_number}
-use Rattle.outbox.specs.Outbox.{longest, free, is_full, Accept, accept_of, as_accept, front_in, up, written, Send, sent_first, kept_first, idle, send_of, as_send}
+use Rattle.outbox.specs.declared.refusal.Refusal.{Refusal}
+use Rattle.outbox.specs.Outbox.{longest, free, is_full, Accept, accept_of, as_accept, front_in, up, written, Send, sent_first, kept_first, idle, send_of, outcome_in, as_send}
 use Rattle.outbox.specs.declared.outbox.Outbox.{Outbox}
 use Rattle.outbox.specs.declared.outbox.Accepted.{Accepted}
 use Rattle.outbox.specs.declared.outbox.Sent.{Sent}
@@ -59,6 +62,11 @@ module _ (o : Outbox) (buf p : List ℕ) where
 
 -- ---- send
 
+-- what was sent, or its outcome alone: one refusal number
+same_number : (r : Result ℕ Refusal) → outcome_number (outcome_in r) ≡ outcome_number r
+same_number (Ok n) = refl
+same_number (Err why) = refl
+
 module _ (o : Outbox) (l : PPPoS) (buf tx : List ℕ) where
   abbrev Mails : Send → Type 0
   Mails s = First (outcome_number s.outcome) (record { count = s.count; outbox = s.outbox; tx = s.tx }) (outbox_rows o l buf tx (front_in o buf))
@@ -95,36 +103,36 @@ module _ (o : Outbox) (l : PPPoS) (buf tx : List ℕ) where
 pub record OutboxHolds : Type 0 where
   pub accept : (o : Outbox) (buf p : List ℕ) {r : Accepted} {buf' : List ℕ} → as_accept r buf' ≡ accept_of o buf p
       → Exactly ⊥ (accept_rows o buf p) (outcome_number r.outcome) (record { outbox = r.outbox; bytes = buf' })
-  pub send : (o : Outbox) (l : PPPoS) (buf tx : List ℕ) {r : Sent} {tx' : List ℕ} → as_send r tx' ≡ send_of o l buf tx
-      → Exactly ⊥ (outbox_rows o l buf tx (front_in o buf)) (outcome_number r.outcome) (record { count = r.count; outbox = r.outbox; tx = tx' })
+  pub send : (o : Outbox) (l : PPPoS) (buf tx : List ℕ) (r : Sent) {tx' : List ℕ} → as_send r tx' ≡ send_of o l buf tx
+      → Exactly ⊥ (outbox_rows o l buf tx (front_in o buf)) (outcome_number r.sent) (record { count = count_of r.sent; outbox = r.outbox; tx = tx' })
   -- "while it is not Opened, or none is held, nothing is sent and the count is 0"
-  pub rests : (o : Outbox) (l : PPPoS) (buf tx : List ℕ) {r : Sent} {tx' : List ℕ} → as_send r tx' ≡ send_of o l buf tx
+  pub rests : (o : Outbox) (l : PPPoS) (buf tx : List ℕ) (r : Sent) {tx' : List ℕ} → as_send r tx' ≡ send_of o l buf tx
       → o.size ≤ length buf → (o.held ≡ 0) ⊎ (l.ppp.ipv4cp.state ≡ Opened → ⊥)
-      → (outcome_number r.outcome ≡ 0) × (r.count ≡ 0) × (r.outbox ≡ o) × (tx' ≡ tx)
+      → (outcome_number r.sent ≡ 0) × (count_of r.sent ≡ 0) × (r.outbox ≡ o) × (tx' ≡ tx)
   -- else, where its frame has room, the packet in front goes as one frame of the link's
-  pub goes : (o : Outbox) (l : PPPoS) (buf tx : List ℕ) {r : Sent} {tx' : List ℕ} → as_send r tx' ≡ send_of o l buf tx
+  pub goes : (o : Outbox) (l : PPPoS) (buf tx : List ℕ) (r : Sent) {tx' : List ℕ} → as_send r tx' ≡ send_of o l buf tx
       → o.size ≤ length buf → 0 < o.held → l.ppp.ipv4cp.state ≡ Opened
       → let m = l.ppp.lcp.proto.asyncmap_remote in
       let p : List ℕ = 0x00 ∷ 0x21 ∷ front_in o buf in
-      length (frame m p) ≤ length tx → ◌≡◌ {A = Counted} (record { count = r.count; bytes = tx' }) (whole_frame m p tx)
+      length (frame m p) ≤ length tx → ◌≡◌ {A = Counted} (record { count = count_of r.sent; bytes = tx' }) (whole_frame m p tx)
 
 -- an answer that is idle leaves all as it is
-still : (o : Outbox) (tx : List ℕ) {r : Sent} {tx' : List ℕ} → as_send r tx' ≡ idle o tx → (outcome_number r.outcome ≡ 0) × (r.count ≡ 0) × (r.outbox ≡ o) × (tx' ≡ tx)
-still o tx e = (ap (λ (s : Send). outcome_number s.outcome) e, ap (λ (s : Send). s.count) e, ap (λ (s : Send). s.outbox) e, ap (λ (s : Send). s.tx) e)
+still : (o : Outbox) (tx : List ℕ) (r : Sent) {tx' : List ℕ} → as_send r tx' ≡ idle o tx → (outcome_number r.sent ≡ 0) × (count_of r.sent ≡ 0) × (r.outbox ≡ o) × (tx' ≡ tx)
+still o tx r e = (sym (same_number r.sent) ∙ ap (λ (s : Send). outcome_number s.outcome) e, ap (λ (s : Send). s.count) e, ap (λ (s : Send). s.outbox) e, ap (λ (s : Send). s.tx) e)
 
 module _ (o : Outbox) (l : PPPoS) (buf tx : List ℕ) (h : o.size ≤ length buf) where
-  rests_still : {r : Sent} {tx' : List ℕ} → as_send r tx' ≡ send_of o l buf tx → (o.held ≡ 0) ⊎ (l.ppp.ipv4cp.state ≡ Opened → ⊥)
-      → (outcome_number r.outcome ≡ 0) × (r.count ≡ 0) × (r.outbox ≡ o) × (tx' ≡ tx)
-  rests_still e (inl z) = still o tx (e ∙ send-none o l buf tx h z)
-  rests_still e (inr d) =
+  rests_still : (r : Sent) {tx' : List ℕ} → as_send r tx' ≡ send_of o l buf tx → (o.held ≡ 0) ⊎ (l.ppp.ipv4cp.state ≡ Opened → ⊥)
+      → (outcome_number r.sent ≡ 0) × (count_of r.sent ≡ 0) × (r.outbox ≡ o) × (tx' ≡ tx)
+  rests_still r e (inl z) = still o tx r (e ∙ send-none o l buf tx h z)
+  rests_still r e (inr d) =
       by_test (eqb o.held 0)
-      (λ z. still o tx (e ∙ send-none o l buf tx h (eqb-true o.held 0 z)))
-      (λ z. by_test (up l) (λ u. absurd (d (up_opened l u))) (λ u. still o tx (e ∙ send_down o l buf tx h (eqb-false o.held 0 z) u)))
+      (λ z. still o tx r (e ∙ send-none o l buf tx h (eqb-true o.held 0 z)))
+      (λ z. by_test (up l) (λ u. absurd (d (up_opened l u))) (λ u. still o tx r (e ∙ send_down o l buf tx h (eqb-false o.held 0 z) u)))
 
-  goes_whole : {r : Sent} {tx' : List ℕ} → as_send r tx' ≡ send_of o l buf tx → 0 < o.held → l.ppp.ipv4cp.state ≡ Opened
+  goes_whole : (r : Sent) {tx' : List ℕ} → as_send r tx' ≡ send_of o l buf tx → 0 < o.held → l.ppp.ipv4cp.state ≡ Opened
       → length (frame (remote_map l) (ip_frame (front_in o buf))) ≤ length tx
-      → ◌≡◌ {A = Counted} (record { count = r.count; bytes = tx' }) (whole_frame (remote_map l) (ip_frame (front_in o buf)) tx)
-  goes_whole e z d k =
+      → ◌≡◌ {A = Counted} (record { count = count_of r.sent; bytes = tx' }) (whole_frame (remote_map l) (ip_frame (front_in o buf)) tx)
+  goes_whole r e z d k =
       let p = ip_frame (front_in o buf) in
       let t = le-leb (length (frame (remote_map l) p)) (length tx) k in
       let w = e ∙ send-up o l buf tx h (λ q. omega arith) (opened_up l d) ∙ ap (λ (b : Bool). cond b (sent_first o l (front_in o buf) tx) (kept_first o l (front_in o buf) tx)) t in
@@ -135,7 +143,7 @@ pub exactly_outbox : OutboxHolds
 exactly_outbox =
     record {
       accept = λ o buf p e. first_exactly _ _ (accept_rows o buf p) (subst (Files o buf p) (sym e) (files o buf p)) refl;
-      send = λ o l buf tx e. first_exactly _ _ (outbox_rows o l buf tx (front_in o buf)) (subst (Mails o l buf tx) (sym e) (mails o l buf tx)) refl;
-      rests = λ o l buf tx e h d. rests_still o l buf tx h e d;
-      goes = λ o l buf tx e h z d k. goes_whole o l buf tx h e z d k;
+      send = λ o l buf tx r e. first_exactly _ _ (outbox_rows o l buf tx (front_in o buf)) (rw (← same_number r.sent) (subst (Mails o l buf tx) (sym e) (mails o l buf tx))) refl;
+      rests = λ o l buf tx r e h d. rests_still o l buf tx h r e d;
+      goes = λ o l buf tx r e h z d k. goes_whole o l buf tx h r e z d k;
     }

@@ -5,10 +5,9 @@ use mathlib.Core.List.{List, [], ◌++◌}
 use mathlib.Core.Logic.{◌⊎◌, inl, inr}
 use Prim.Native.Nat.{ℕ}
 use native.Mathlib.Omega.{arith}
+use Rattle.std.specs.Prelude.{Result, Ok, Err}
 use Rattle.options.specs.Refusal.{number_of, outcome_number, outcome_values}
 use Rattle.options.specs.declared.refusal.Refusal.{Refusal}
-use Rattle.options.specs.declared.refusal.Outcome.{Outcome}
-use Rattle.options.specs.declared.refusal.Outcome.TheVariants.{Done, Refused}
 use Rattle.options.proofs.Numbers.{not_given, silent}
 use Rattle.phases.specs.Phases.{received_of}
 use Rattle.phases.specs.declared.ppp.Ppp.{Ppp}
@@ -22,9 +21,9 @@ pub refusal_some : (why : Refusal) → number_of why ≡ 0 → ⊥
 refusal_some why = not_given why 0 (λ e. omega arith)
 
 -- 7 alone tells more than its number
-outcome_silent : (o : Outcome) → (outcome_number o ≡ 7 → ⊥) → outcome_values o ≡ []
-outcome_silent Done h = refl
-outcome_silent (Refused why) h = silent why h
+outcome_silent : (o : Result Unit Refusal) → (outcome_number o ≡ 7 → ⊥) → outcome_values o ≡ []
+outcome_silent (Ok tt) h = refl
+outcome_silent (Err why) h = silent why h
 
 option_number : {p : Ppp} {pkt : List ℕ} {n : ℕ} → OptionFault p pkt n → (n ≡ 7) ⊎ ((n ≡ 8) ⊎ (n ≡ 9))
 option_number (OptionFault.request w k n x) = fault_number x

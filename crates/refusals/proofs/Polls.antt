@@ -9,6 +9,7 @@ use native.Mathlib.Omega.{arith}
 use borrow.Author.Tests.{ltb-true, ltb-false, leb-true, leb-false}
 use lib.Dec.{ltb, leb}
 use lib.ListN.{length, drop, length-take}
+use Rattle.std.specs.Prelude.{Result, Ok, Err}
 use Rattle.laws.proofs.Cases.{by_test, cond_by}
 use Rattle.framing.specs.Writer.{over}
 use Rattle.framing.specs.Reader.{is_short, is_complete, fetched}
@@ -16,12 +17,12 @@ use Rattle.framing.specs.declared.frame_reader.FrameReader.{FrameReader}
 use Rattle.framing.specs.declared.frame_reader.State.TheVariants.{Complete}
 use Rattle.options.specs.Refusal.{number_of, outcome_number, outcome_values}
 use Rattle.phases.specs.Phases.{Turn, received_of, poll_of, turn_of}
-use Rattle.options.specs.declared.refusal.Outcome.{Outcome}
-use Rattle.options.specs.declared.refusal.Outcome.TheVariants.{Done, Refused}
+use Rattle.options.specs.declared.refusal.Refusal.{Refusal}
 use Rattle.phases.proofs.Phasing.{turn_refused_lem, turn_done}
 use Rattle.link.specs.Frames.{frames}
 use Rattle.link.specs.Link.{held_by, link_of, Poll, declined, written, answered_poll, is_ip, packet_poll, poll_link, Polls, action_number, action_values, transmitted}
 use Rattle.refusals.specs.Table.{packet_in, Kept, link_moved_on, poll_rows}
+use Rattle.link.specs.declared.refusal.Refusal as link
 use Rattle.link.specs.declared.refusal.Refusal.TheVariants.{Negotiation}
 use Rattle.link.specs.declared.pppos.PPPoS.{PPPoS}
 use Rattle.link.specs.declared.pppos.PPPoSAction.{PPPoSAction}
@@ -98,13 +99,13 @@ module _ (l : PPPoS) (tx rx : List ℕ) where
         record { first = first_last (frames t.sent) (written l r t tx rx) held z w.0; sent = w.1 }
 
     -- the packet, by what negotiation says of it
-    right_turn : Got → (o : Outcome) → (received_of l.ppp pkt).outcome ≡ o
+    right_turn : Got → (o : Result Unit Refusal) → (received_of l.ppp pkt).outcome ≡ o
         → Right l tx rx (frames (turn_of l.ppp pkt).sent) (answered_poll l (fetched l.frame_reader) (turn_of l.ppp pkt) tx rx)
-    right_turn g Done e =
+    right_turn g (Ok tt) e =
         let r = fetched l.frame_reader in
         let t = turn_of l.ppp pkt in
         rw (answered-done l r t tx rx (ap (λ (t : Turn). t.outcome) (turn_done l.ppp pkt e))) (right_written r t (λ _. ap outcome_number e))
-    right_turn g (Refused why) e =
+    right_turn g (Err why) e =
         let r = fetched l.frame_reader in
         let t = turn_of l.ppp pkt in
         let n = ap outcome_number e in
@@ -125,7 +126,7 @@ module _ (l : PPPoS) (tx rx : List ℕ) where
     unfolding packet_poll Last
     right_packet g =
         by_test (is_ip pkt)
-        (λ e. rw e (record { first = first_last [] (record { action = Received 3 (l.frame_reader.len - 2); link = link_of (fetched l.frame_reader) l.ppp; tx = tx; rx = rx }) held (λ _. ip_fine e) (inr ((λ h. omega arith), refl)); sent = λ _. (refl, refl) }))
+        (λ e. rw e (record { first = first_last [] (record { action = Ok (Received 3 (l.frame_reader.len - 2)); link = link_of (fetched l.frame_reader) l.ppp; tx = tx; rx = rx }) held (λ _. ip_fine e) (inr ((λ h. omega arith), refl)); sent = λ _. (refl, refl) }))
         (λ e. rw e (right_turn g (received_of l.ppp pkt).outcome refl))
 
   right : Right l tx rx (out_of l rx) (poll_link l tx rx)
@@ -149,7 +150,7 @@ module _ (l : PPPoS) (tx rx : List ℕ) where
 
 -- ---- as the contract has it
 
-module _ (l : PPPoS) (tx rx : List ℕ) {a : PPPoSAction} {l' : PPPoS} {tx' rx' : List ℕ} (c : Polls (poll_link l tx rx) a l' tx' rx') where
+module _ (l : PPPoS) (tx rx : List ℕ) {a : Result PPPoSAction link.Refusal} {l' : PPPoS} {tx' rx' : List ℕ} (c : Polls (poll_link l tx rx) a l' tx' rx') where
   pub poll-first : First (action_number a) (record { told = action_values a; link = l'; tx = tx'; rx = rx' }) (poll_rows l tx rx (out_of l rx))
   poll-first = rw (c.action, c.link, c.transmit, c.receive) (right l tx rx).first
 

@@ -4,19 +4,20 @@ use mathlib.Core.Path.{◌≡◌, refl, ap, ◌∙◌}
 use mathlib.Core.List.{List, ◌++◌}
 use Prim.Native.Nat.{ℕ}
 use lib.ListN.{length, drop}
+use Rattle.std.specs.Prelude.{Result}
 use Rattle.framing.specs.Reader.{fresh_reader}
 use Rattle.framing.specs.Drops.{dropped}
 use Rattle.framing.specs.declared.drops.Drops.{Drops}
 use Rattle.phases.specs.declared.ppp.Status.{Status}
 use Rattle.framing.specs.Refusal as framing
-use Rattle.framing.specs.declared.refusal.Outcome as framed
+use Rattle.framing.specs.declared.refusal.Refusal as framed
 use Rattle.link.specs.Refusal.{outcome_number}
 use Rattle.link.specs.Link.{link_of, held_by, Makes, Opens, Consumes, poll_link, Polls, action_number, action_values, Sends, transmitted}
 use Rattle.status_lines.specs.Lines.{lines_of, Shows}
 use Rattle.refusals.specs.Rows.{Exactly}
 use Rattle.refusals.specs.Framing.{consume_rows}
 use Rattle.refusals.specs.Table.{empty_link, new_rows, open_rows, send_rows, lines_rows, poll_rows}
-use Rattle.link.specs.declared.refusal.Outcome.{Outcome}
+use Rattle.link.specs.declared.refusal.Refusal.{Refusal}
 use Rattle.link.specs.declared.choices.Choices.{Choices}
 use Rattle.link.specs.declared.pppos.PPPoS.{PPPoS}
 use Rattle.link.specs.declared.pppos.PPPoSAction.{PPPoSAction}
@@ -27,25 +28,25 @@ use Rattle.refusals.proofs.Polls.{out_of, poll-first, poll-sent}
 -- a poll has some bytes to send, whatever its transmit buffer: the table holds with them, and they are sent where nothing is refused
 pub record PollHolds (l : PPPoS) (rx : List ℕ) : Type 0 where
   pub out : List ℕ
-  pub table : (tx : List ℕ) {a : PPPoSAction} {l' : PPPoS} {tx' rx' : List ℕ} → Polls (poll_link l tx rx) a l' tx' rx'
+  pub table : (tx : List ℕ) {a : Result PPPoSAction Refusal} {l' : PPPoS} {tx' rx' : List ℕ} → Polls (poll_link l tx rx) a l' tx' rx'
       → Exactly ⊥ (poll_rows l tx rx out) (action_number a) (record { told = action_values a; link = l'; tx = tx'; rx = rx' })
-  pub sent : (tx : List ℕ) {a : PPPoSAction} {l' : PPPoS} {tx' rx' : List ℕ} → Polls (poll_link l tx rx) a l' tx' rx'
+  pub sent : (tx : List ℕ) {a : Result PPPoSAction Refusal} {l' : PPPoS} {tx' rx' : List ℕ} → Polls (poll_link l tx rx) a l' tx' rx'
       → action_number a ≡ 0 → (transmitted a ≡ length out) × (tx' ≡ out ++ drop (length out) tx)
 
 -- each call as its contract has it
 pub record TableHolds : Type 0 where
-  pub new : (name password : List ℕ) (c : Choices) {o : Outcome} {l : PPPoS} → Makes name password c o l
+  pub new : (name password : List ℕ) (c : Choices) {o : Result Unit Refusal} {l : PPPoS} → Makes name password c o l
       → Exactly ⊥ (new_rows name password (empty_link c)) (outcome_number o) l
-  pub «open» : (l : PPPoS) {o : Outcome} {l' : PPPoS} → Opens l o l'
+  pub «open» : (l : PPPoS) {o : Result Unit Refusal} {l' : PPPoS} → Opens l o l'
       → Exactly ⊥ (open_rows l.ppp.phase l) (outcome_number o) l'
-  pub consume : (l : PPPoS) (rx bs : List ℕ) {o : Outcome} {n : ℕ} {d : Drops} {l' : PPPoS} {rx' : List ℕ} → Consumes l rx bs o n l' rx' → d ≡ dropped (held_by l rx) bs
-      → Exactly ⊥ (consume_rows l.frame_reader.len l rx) (outcome_number o) (record { count = n; drops = d; kept = l'; rx = rx' })
+  pub consume : (l : PPPoS) (rx bs : List ℕ) {t : Result ℕ Refusal} {d : Drops} {l' : PPPoS} {rx' : List ℕ} → Consumes l rx bs t l' rx' → d ≡ dropped (held_by l rx) bs
+      → Exactly ⊥ (consume_rows l.frame_reader.len l rx) (outcome_number t) (record { count = framing.count_of t; drops = d; kept = l'; rx = rx' })
   pub poll : (l : PPPoS) (rx : List ℕ) → PollHolds l rx
   -- `send`, and `send_parts` with the join of its parts
-  pub send : (l : PPPoS) (pkt tx : List ℕ) {o : Outcome} {n : ℕ} {tx' : List ℕ} → Sends l pkt tx o n tx'
-      → Exactly ⊥ (send_rows l pkt tx) (outcome_number o) (record { count = n; bytes = tx' })
-  pub lines : (s : Status) (buf : List ℕ) {o : framed.Outcome} {n : ℕ} {buf' : List ℕ} → Shows s buf o n buf'
-      → Exactly ⊥ (lines_rows (lines_of s) buf) (framing.outcome_number o) (record { count = n; bytes = buf' })
+  pub send : (l : PPPoS) (pkt tx : List ℕ) {r : Result ℕ Refusal} {tx' : List ℕ} → Sends l pkt tx r tx'
+      → Exactly ⊥ (send_rows l pkt tx) (outcome_number r) (record { count = framing.count_of r; bytes = tx' })
+  pub lines : (s : Status) (buf : List ℕ) {r : Result ℕ framed.Refusal} {buf' : List ℕ} → Shows s buf r buf'
+      → Exactly ⊥ (lines_rows (lines_of s) buf) (framing.outcome_number r) (record { count = framing.count_of r; bytes = buf' })
 
 poll-holds : (l : PPPoS) (rx : List ℕ) → PollHolds l rx
 poll-holds l rx =

@@ -1,5 +1,5 @@
 -- Document 01's refusal table for framing's calls, from its words alone: of framing's definitions it names RFC 1662's and the records.
--- The check value (`crc16`, `crc16_by_formula`, `step`, `ppp_crc16`), `frame_len`, `len`, `number` and each `new` refuse nothing: their promise is a value for every input.
+-- The check value (`crc16`, `crc16_by_formula`, `step`, `ppp_crc16`), `frame_len`, `len`, `u8::from` and each `new` refuse nothing: their promise is a value for every input.
 use Rattle.std.specs.Prelude.{◌≡◌, cond, ℕ, ◌+◌, ◌≤◌, ◌<◌, eqb, length, take, drop}
 use mathlib.Core.List.{List, [], ◌∷◌, ◌++◌, map, flatten}
 use Rattle.framing.specs.Rfc1662.{fcs, check_bytes, fields, unit, frame}

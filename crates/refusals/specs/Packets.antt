@@ -4,6 +4,7 @@
 use Rattle.std.specs.Prelude.{◌≡◌, Bool, false, cond, ◌&&◌, List, [], ◌∷◌, ◌⊎◌, ℕ, ◌+◌, ◌-◌, ◌≤◌, ◌<◌, eqb, length, take, drop, get_or}
 use Rattle.laws.specs.Be.{be_of}
 use Rattle.laws.specs.Same.{same}
+use Rattle.options.specs.declared.proto.Proto.{Proto}
 use Rattle.negotiation.specs.declared.option_fsm.OptionFsm.{OptionFsm}
 use Rattle.negotiation.specs.declared.auth.Auth.{Auth}
 use Rattle.negotiation.specs.declared.states.State.{State}
@@ -171,7 +172,7 @@ abbrev pub turn_rows : Ppp → List ℕ → List (Row (Answered Ppp))
 turn_rows p pkt = packet_rows (λ c. c) (λ t. t.told) (Unchanged p) p pkt
 
 -- `OptionFsm::send_protocol_reject`: the reply has the whole packet and 6
-abbrev pub reject_rows : OptionFsm → List ℕ → List (Row (Answered OptionFsm))
+abbrev pub reject_rows : OptionFsm Proto → List ℕ → List (Row (Answered (OptionFsm Proto)))
 reject_rows f pkt = row 10 (128 < length pkt + 6) (λ t. Unchanged f t × (t.told ≡ [])) ∷ []
 
 -- `Auth::handle_pap`, which answers no echo

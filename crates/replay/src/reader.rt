@@ -1,149 +1,139 @@
 // The reader's calls.
-use crate::call;
-use crate::show::{buffer, ended, ok, say, text};
-use crate::world::{World, fill, given, lent};
-use crate::writer::refusal;
+use crate::show::Filled;
 use framing::drops::Drops;
-use framing::frame_reader::{Consumed, FrameReader, Got, Reading, State};
-use std::io;
+use framing::frame_reader::{FrameReader, Reading, Span, State};
+use framing::refusal::Refusal;
+use std::alloc::{AllocError, Global};
+use std::fmt;
 
-// The numbers are those of the names in `show::name`.
-fn state(s: State) -> usize {
-    match s {
-        State::Start => 11,
-        State::Address => 12,
-        State::Data => 13,
-        State::Complete => 14,
-    }
+// A reader, the buffer that it is lent, and what its last consume dropped.
+#[derive(Drop)]
+pub(crate) struct Reader {
+    reader: FrameReader,
+    buf: Vec<u8>,
+    drops: Drops,
 }
 
-// A reader as a call leaves it.
-pub(crate) fn left(out: &mut [u8], at: usize, r: FrameReader) -> usize {
-    let s = r.state;
-    say(
-        out,
-        at,
-        b"reader=$ escape=# kept=#",
-        &[state(s), r.escape as usize, r.len],
-    )
-}
-
-fn consumed(
-    rt: &impl Print,
-    r: Consumed,
-    at: usize,
-    buf: &[u8],
-    fill: u8,
-    out: &mut [u8],
-) -> io::Result<FrameReader> {
-    let o = r.outcome;
-    let reader = r.reader;
-    let at = say(out, at, b"! # ", &[refusal(o), r.count]);
-    let at = left(out, at, reader);
-    let at = text(out, at, b" rx=");
-    let at = buffer(out, at, buf, fill);
-    ended(rt, out, at)?;
-    Ok(reader)
-}
-
-fn consume(
-    rt: &impl Print,
-    mut w: World,
-    src: &[u8],
-    buf: &mut [u8],
-    out: &mut [u8],
-) -> io::Result<World> {
-    let c = w.call;
-    let reader = w.reader;
-    let r = reader.consume(buf, src);
-    let d = r.drops;
-    let reader = consumed(rt, r, c.at, buf, w.rx_fill, out)?;
-    w.reader = reader;
-    w.drops = d;
-    Ok(w)
-}
+// What a reader keeps from call to call.
+#[derive(Clone, Copy)]
+pub(crate) struct Kept(pub(crate) FrameReader);
 
 // The counts of a consume.
-pub(crate) fn dropped(rt: &impl Print, d: Drops, at: usize, out: &mut [u8]) -> io::Result<()> {
-    let at = say(
-        out,
-        at,
-        b"# # # # #",
-        &[d.aborted, d.short, d.control, d.check, d.overrun],
-    );
-    ended(rt, out, at)
-}
+#[derive(Clone, Copy)]
+pub(crate) struct Counts(pub(crate) Drops);
 
-fn got(out: &mut [u8], at: usize, g: Got) -> usize {
-    match g {
-        Got::Packet { from, to } => say(out, at, b"#..# ", &[from, to]),
-        Got::Refused(r) => say(out, at, b"! ", &[framing::refusal::number(r) as usize]),
-        Got::Nothing => text(out, at, b"none "),
+// What a consume took: a refusal takes nothing.
+#[derive(Clone, Copy)]
+pub(crate) struct Taken(pub(crate) Result<usize, u8>);
+
+fn state_name(state: State) -> &'static str {
+    match state {
+        State::Start => "start",
+        State::Address => "address",
+        State::Data => "data",
+        State::Complete => "complete",
     }
 }
 
-fn received(
-    rt: &impl Print,
-    reader: FrameReader,
-    at: usize,
-    out: &mut [u8],
-) -> io::Result<FrameReader> {
-    let r = reader.receive();
-    let g = r.got;
-    let reader = r.reader;
-    let at = got(out, at, g);
-    let at = left(out, at, reader);
-    ended(rt, out, at)?;
-    Ok(reader)
-}
-
-fn receive(rt: &impl Print, mut w: World, out: &mut [u8]) -> io::Result<World> {
-    let c = w.call;
-    let reader = w.reader;
-    let reader = received(rt, reader, c.at, out)?;
-    w.reader = reader;
-    Ok(w)
-}
-
-pub(crate) fn reading(standard: usize) -> Reading {
-    if standard == 0 {
-        Reading::Standard
-    } else {
-        Reading::Crate
+impl fmt::Display for Kept {
+    fn fmt<W: fmt::Write>(&self, f: &mut fmt::Formatter<W>) -> fmt::Result {
+        let FrameReader {
+            state,
+            escape,
+            len,
+            ..
+        } = self.0;
+        write!(
+            f,
+            "reader={} escape={} kept={len}",
+            state_name(state),
+            u8::from(escape)
+        )
     }
 }
 
-fn made(rt: &impl Print, mut w: World, buf: &mut [u8], out: &mut [u8]) -> io::Result<World> {
-    let c = w.call;
-    let reader = FrameReader::new(reading(c.b));
-    fill(buf, c.a, w.rx_fill);
-    ok(rt, out, c.at)?;
-    w.reader = reader;
-    w.reader_room = c.a;
-    w.drops = Drops::none();
-    Ok(w)
+impl fmt::Display for Counts {
+    fn fmt<W: fmt::Write>(&self, f: &mut fmt::Formatter<W>) -> fmt::Result {
+        let Drops {
+            aborted,
+            short,
+            control,
+            check,
+            overrun,
+        } = self.0;
+        write!(f, "{aborted} {short} {control} {check} {overrun}")
+    }
 }
 
-pub(crate) fn run(
-    rt: &impl Print,
-    w: World,
-    line: &[u8],
-    buf: &mut [u8],
-    out: &mut [u8],
-) -> io::Result<World> {
-    let c = w.call;
-    let k = c.number;
-    match k {
-        call::RNEW => made(rt, w, buf, out),
-        call::RCONSUME => {
-            let n = lent(buf, w.reader_room);
-            consume(rt, w, given(line, c.a_at, c.a), &mut buf[0..n], out)
+impl fmt::Display for Taken {
+    fn fmt<W: fmt::Write>(&self, f: &mut fmt::Formatter<W>) -> fmt::Result {
+        match self.0 {
+            Ok(count) => write!(f, "ok {count}"),
+            Err(refusal) => write!(f, "refuse {refusal} 0"),
         }
-        call::RRECEIVE => receive(rt, w, out),
-        _ => {
-            let d = w.drops;
-            dropped(rt, d, c.at, out)?;
-            Ok(w)
+    }
+}
+
+fn show_got(got: Result<Option<Span>, Refusal>, out: &mut String) -> Result<(), AllocError> {
+    match got {
+        Ok(Some(packet)) => write!(out, "{}..{}", packet.start, packet.end),
+        Ok(None) => write!(out, "none"),
+        Err(refusal) => write!(out, "refuse {}", u8::from(refusal)),
+    }
+}
+
+impl Reader {
+    // A reader without room.
+    pub(crate) fn new(alloc: Global) -> Self {
+        Reader {
+            reader: FrameReader::new(Reading::Crate),
+            buf: Vec::new(alloc),
+            drops: Drops::none(),
         }
+    }
+
+    pub(crate) fn renew(
+        &mut self,
+        room: usize,
+        reading: Reading,
+        fill: u8,
+        out: &mut String,
+    ) -> Result<(), AllocError> {
+        self.reader = FrameReader::new(reading);
+        self.drops = Drops::none();
+        self.buf.clear();
+        self.buf.resize(room, fill)?;
+        out.push_str("rnew ok")
+    }
+
+    pub(crate) fn consume(
+        &mut self,
+        src: &[u8],
+        fill: u8,
+        out: &mut String,
+    ) -> Result<(), AllocError> {
+        let consumed = self.reader.consume(self.buf.as_mut_slice(), src);
+        self.reader = consumed.reader;
+        self.drops = consumed.drops;
+        let taken = Taken(consumed.taken.map_err(u8::from));
+        let bytes = self.buf.as_slice();
+        write!(
+            out,
+            "rconsume {taken} {} rx={}",
+            Kept(self.reader),
+            Filled { bytes, fill }
+        )
+    }
+
+    pub(crate) fn receive(&mut self, out: &mut String) -> Result<(), AllocError> {
+        let received = self.reader.receive();
+        self.reader = received.reader;
+        out.push_str("rreceive ")?;
+        show_got(received.got, out)?;
+        write!(out, " {}", Kept(self.reader))
+    }
+
+    pub(crate) fn drops(&self, out: &mut String) -> Result<(), AllocError> {
+        write!(out, "rdrops {}", Counts(self.drops))
     }
 }

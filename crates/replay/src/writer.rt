@@ -1,84 +1,73 @@
 // The writer's calls.
-use crate::call;
-use crate::show::{buffer, ended, ok, say};
-use crate::world::{World, fill, given, lent};
+use crate::show::{Filled, Verdict};
 use framing::frame_writer::{FrameWriter, Wrote};
-use framing::refusal::Outcome;
-use std::io;
+use std::alloc::{AllocError, Global};
 
-pub(crate) fn refusal(o: Outcome) -> usize {
-    match o {
-        Outcome::Done => 0,
-        Outcome::Refused(r) => framing::refusal::number(r) as usize,
+// A writer, and the buffer that it is lent.
+#[derive(Drop)]
+pub(crate) struct Writer {
+    writer: FrameWriter,
+    buf: Vec<u8>,
+}
+
+impl Writer {
+    // A writer without room.
+    pub(crate) fn new(alloc: Global) -> Self {
+        Writer {
+            writer: FrameWriter::new(),
+            buf: Vec::new(alloc),
+        }
     }
-}
 
-fn made(rt: &impl Print, mut w: World, buf: &mut [u8], out: &mut [u8]) -> io::Result<World> {
-    let c = w.call;
-    let writer = FrameWriter::new_with_asyncmap((c.b % 0x1_0000_0000) as u32);
-    fill(buf, c.a, w.tx_fill);
-    ok(rt, out, c.at)?;
-    w.writer = writer;
-    w.writer_room = c.a;
-    Ok(w)
-}
-
-fn step(writer: FrameWriter, k: usize, src: &[u8], buf: &mut [u8]) -> Wrote {
-    match k {
-        call::WSTART => writer.start(buf),
-        call::WAPPEND => writer.append(buf, src),
-        _ => writer.finish(buf),
+    pub(crate) fn renew(
+        &mut self,
+        room: usize,
+        map: u32,
+        fill: u8,
+        out: &mut String,
+    ) -> Result<(), AllocError> {
+        self.writer = FrameWriter::new_with_asyncmap(map);
+        self.buf.clear();
+        self.buf.resize(room, fill)?;
+        out.push_str("wnew ok")
     }
-}
 
-// A call's answer, and the writer that it leaves.
-fn left(
-    rt: &impl Print,
-    r: Wrote,
-    at: usize,
-    buf: &[u8],
-    fill: u8,
-    out: &mut [u8],
-) -> io::Result<FrameWriter> {
-    let o = r.outcome;
-    let w = r.writer;
-    let at = say(
-        out,
-        at,
-        b"! len=# crc=& buf=",
-        &[refusal(o), w.len, w.crc as usize],
-    );
-    let at = buffer(out, at, buf, fill);
-    ended(rt, out, at)?;
-    Ok(w)
-}
-
-fn stepped(
-    rt: &impl Print,
-    mut w: World,
-    src: &[u8],
-    buf: &mut [u8],
-    out: &mut [u8],
-) -> io::Result<World> {
-    let c = w.call;
-    let writer = w.writer;
-    let r = step(writer, c.number, src, buf);
-    let writer = left(rt, r, c.at, buf, w.tx_fill, out)?;
-    w.writer = writer;
-    Ok(w)
-}
-
-pub(crate) fn run(
-    rt: &impl Print,
-    w: World,
-    line: &[u8],
-    buf: &mut [u8],
-    out: &mut [u8],
-) -> io::Result<World> {
-    let c = w.call;
-    if c.number == call::WNEW {
-        return made(rt, w, buf, out);
+    // What a call answers, where it leaves the writer as `wrote` has it.
+    fn left(
+        &mut self,
+        name: &str,
+        wrote: Wrote,
+        fill: u8,
+        out: &mut String,
+    ) -> Result<(), AllocError> {
+        self.writer = wrote.writer;
+        let FrameWriter { len, crc, .. } = self.writer;
+        let said = Verdict(wrote.outcome.map_err(u8::from));
+        let bytes = self.buf.as_slice();
+        write!(
+            out,
+            "{name} {said} len={len} crc={crc:04x} buf={}",
+            Filled { bytes, fill }
+        )
     }
-    let n = lent(buf, w.writer_room);
-    stepped(rt, w, given(line, c.a_at, c.a), &mut buf[0..n], out)
+
+    pub(crate) fn start(&mut self, fill: u8, out: &mut String) -> Result<(), AllocError> {
+        let wrote = self.writer.start(self.buf.as_mut_slice());
+        self.left("wstart", wrote, fill, out)
+    }
+
+    pub(crate) fn append(
+        &mut self,
+        src: &[u8],
+        fill: u8,
+        out: &mut String,
+    ) -> Result<(), AllocError> {
+        let wrote = self.writer.append(self.buf.as_mut_slice(), src);
+        self.left("wappend", wrote, fill, out)
+    }
+
+    pub(crate) fn finish(&mut self, fill: u8, out: &mut String) -> Result<(), AllocError> {
+        let wrote = self.writer.finish(self.buf.as_mut_slice());
+        self.left("wfinish", wrote, fill, out)
+    }
 }

@@ -3,26 +3,13 @@
 
 ghost use Rattle.std.specs.Prelude.{◌≤◌, length, IfOk};
 
-use feeding::feed::{feed, start};
-use framing::frame_reader::Reading;
-use link::choices::Choices;
 use link::frames::ALWAYS_ENOUGH;
-use phases::ppp::Status;
+use serial::line::Line;
 use status_lines::status::{MAX_LINES, text};
 use std::fs::File;
 use std::io;
 use std::rt::Files;
 use streams::read_full;
-
-fn played(bytes: &[u8]) -> Status {
-    let mut tx = [0u8; ALWAYS_ENOUGH];
-    let mut rx = [0u8; 1600];
-    let p = start(Choices::plain(Reading::Crate), &mut tx, &mut rx);
-    let link = p.link;
-    let f = feed(link, &mut tx, &mut rx, bytes);
-    let link = f.link;
-    link.status()
-}
 
 // What a recording holds, at the start of `bytes`, and how much of it there is.
 fn recorded(rt: &impl Files, name: &str, bytes: &mut [u8]) -> io::Result<usize>
@@ -39,16 +26,15 @@ fn sample(rt: &(impl Files + Print + Eprint), name: &str) -> io::Result<()> {
         Ok(n) => n,
         Err(error) => return eprintln!(rt; "{name}: {error}"),
     };
-    rt.write_all(name.as_bytes())?;
-    rt.write_all(b"\n")?;
+    println!(rt; "{name}")?;
+    let line = Line::<ALWAYS_ENOUGH>::heard(&bytes[..n]);
     let mut out = [0u8; MAX_LINES];
-    let t = text(played(&bytes[..n]), &mut out);
-    rt.write_all(&t[..])
+    rt.write_all(text(line.link.status(), &mut out))
 }
 
 fn main(rt: HostRuntime) -> io::Result<()> {
-    sample(&rt, "open")?;
-    sample(&rt, "pppd")?;
-    sample(&rt, "damaged")?;
-    sample(&rt, "dead")
+    for name in ["open", "pppd", "damaged", "dead"] {
+        sample(&rt, name)?;
+    }
+    Ok(())
 }

@@ -1,127 +1,98 @@
-// A collector with its outbox: packet by packet, as the counter makes them.
+// A collector with its outbox and both buffers: packet by packet, as the counter makes them.
 use crate::arrival::arrives;
 use crate::counts::Counts;
-use crate::packet::{LONGEST, lent, packet};
+use crate::packet::{LONGEST, packet};
 use link::pppos::PPPoS;
-use outbox::outbox::{Outbox, Sent};
-use outbox::refusal::{Outcome, number};
+use outbox::outbox::{ALWAYS_ENOUGH, Accepted, Outbox};
 use std::io;
 
-#[derive(Clone, Copy)]
+pub(crate) const SIZE: usize = 4096;
+
+#[derive(Drop)]
 pub(crate) struct Queue {
     outbox: Outbox,
     counts: Counts,
-}
-
-// 0 where nothing was refused.
-fn refusal(o: Outcome) -> u8 {
-    match o {
-        Outcome::Done => 0,
-        Outcome::Refused(why) => number(why),
-    }
+    buf: [u8; SIZE],
+    tx: [u8; ALWAYS_ENOUGH],
 }
 
 impl Queue {
-    pub(crate) fn new(buf: &[u8]) -> Self {
+    pub(crate) fn new() -> Self {
+        let buf = [0u8; SIZE];
         Queue {
-            outbox: Outbox::new(buf),
-            counts: Counts::new(),
+            outbox: Outbox::new(&buf),
+            counts: Counts::default(),
+            buf,
+            tx: [0; ALWAYS_ENOUGH],
         }
     }
 
-    pub(crate) fn held(self) -> usize {
-        let o = self.outbox;
-        o.held()
+    pub(crate) fn held(&self) -> usize {
+        self.outbox.held()
     }
 
-    pub(crate) fn show(self, rt: &impl Print, step: &str) -> io::Result<()> {
-        let c = self.counts;
-        c.show(rt, self.held(), step)
+    pub(crate) fn show(&self, rt: &impl Print, step: &str) -> io::Result<()> {
+        self.counts.show(rt, self.held(), step)
     }
 
-    pub(crate) fn accept(self, pkt: &[u8], buf: &mut [u8]) -> Self {
-        let o = self.outbox;
-        let c = self.counts;
-        let a = o.accept(pkt, buf);
-        let outcome = a.outcome;
-        let outbox = a.outbox;
-        Queue {
-            outbox,
-            counts: c.with_accept(refusal(outcome)),
-        }
-    }
-
-    // The next packet; one that was refused is next again.
-    fn offer(self, buf: &mut [u8]) -> Self {
-        let c = self.counts;
-        let mut room = [0u8; LONGEST];
-        let p = packet(c.accepted, &mut room);
-        self.accept(&p[..], buf)
-    }
-
-    fn accepted(self) -> usize {
-        let c = self.counts;
-        c.accepted
-    }
-
-    // Up to `n` packets, until one is refused.
-    pub(crate) fn offer_some(self, n: usize, buf: &mut [u8]) -> Self {
-        let mut q = self;
-        let mut left = n;
-        while left > 0 {
-            left -= 1;
-            let before = q.accepted();
-            q = q.offer(buf);
-            if q.accepted() == before {
-                return q;
+    // Whether the packet was accepted.
+    fn take(&mut self, accepted: Accepted) -> bool {
+        self.outbox = accepted.outbox;
+        match accepted.outcome {
+            Ok(()) => {
+                self.counts.take_packet();
+                true
+            }
+            Err(why) => {
+                self.counts.take_refusal(why);
+                false
             }
         }
-        q
     }
 
-    // What a `send` came to; what it wrote is read as the other end would.
-    fn with_sent(self, e: Sent, tx: &[u8]) -> Self {
-        let before = self.outbox;
-        let c = self.counts;
-        let outcome = e.outcome;
-        let outbox = e.outbox;
-        let why = refusal(outcome);
-        let n = lent(tx, e.count);
-        if why != 0 || n == 0 {
-            return Queue {
-                outbox,
-                counts: c.with_silence(why),
-            };
-        }
-        let is_same = arrives(&tx[0..n], c.sent);
-        Queue {
-            outbox,
-            counts: c.with_frame(is_same, outbox.front < before.front),
+    pub(crate) fn accept(&mut self, pkt: &[u8]) -> bool {
+        let accepted = self.outbox.accept(pkt, &mut self.buf);
+        self.take(accepted)
+    }
+
+    // Lends a buffer that is a byte short.
+    pub(crate) fn accept_short(&mut self, pkt: &[u8]) -> bool {
+        let mut short = [0u8; SIZE - 1];
+        self.take(self.outbox.accept(pkt, &mut short))
+    }
+
+    // Up to `n` packets, until one is refused; one that was refused is next again.
+    pub(crate) fn offer_some(&mut self, n: usize) {
+        for _ in 0..n {
+            let mut room = [0u8; LONGEST];
+            if !self.accept(packet(self.counts.accepted, &mut room)) {
+                break;
+            }
         }
     }
 
-    fn send(self, l: PPPoS, buf: &[u8], tx: &mut [u8]) -> Self {
-        let o = self.outbox;
-        let e = o.send(l, buf, tx);
-        self.with_sent(e, tx)
+    // What it wrote is read as the other end would.
+    fn send(&mut self, link: PPPoS, room: usize) {
+        let tx = &mut self.tx[..];
+        let len = room.min(tx.len());
+        let sent = self.outbox.send(link, &self.buf, &mut tx[..len]);
+        let is_wrap = sent.outbox.front < self.outbox.front;
+        self.outbox = sent.outbox;
+        match sent.sent {
+            Err(why) => self.counts.take_refusal(why),
+            Ok(0) => self.counts.take_idle(),
+            Ok(n) => {
+                let frame = &self.tx[..n.min(ALWAYS_ENOUGH)];
+                let is_same = arrives(frame, self.counts.next());
+                self.counts.take_frame(is_same, is_wrap);
+            }
+        }
     }
 
     // `n` sends into so many bytes of the transmit buffer.
-    pub(crate) fn send_some(
-        self,
-        n: usize,
-        l: PPPoS,
-        buf: &[u8],
-        room: usize,
-        tx: &mut [u8],
-    ) -> Self {
-        let k = lent(tx, room);
-        let mut q = self;
-        let mut left = n;
-        while left > 0 {
-            left -= 1;
-            q = q.send(l, buf, &mut tx[0..k]);
+    pub(crate) fn send_some(&mut self, n: usize, link: PPPoS, room: usize) {
+        for _ in 0..n {
+            self.send(link, room);
         }
-        q
     }
 }

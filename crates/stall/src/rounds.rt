@@ -1,32 +1,26 @@
 // An uplink that stalls again and again.
-use crate::packet::{draw, high};
+use crate::packet::high;
 use crate::queue::Queue;
-use crate::uplink::not_open;
 use link::pppos::PPPoS;
+use serial::generator::Generator;
+use serial::line::unopened;
 
 // In 16 rounds of 64 the link is one that is not open.
-fn link_in(round: u32, l: PPPoS) -> PPPoS {
+fn link_in(round: u32, link: PPPoS) -> PPPoS {
     if round / 16 % 4 == 3 {
-        return not_open();
+        unopened()
+    } else {
+        link
     }
-    l
 }
 
-// The generator's number says how many packets are offered, how many sends follow, and into how many bytes.
-fn round(q: Queue, x: usize, l: PPPoS, buf: &mut [u8], tx: &mut [u8]) -> Queue {
-    let q = q.offer_some(x % 4, buf);
-    q.send_some(x / 4 % 5, l, buf, x / 20 * 2, tx)
-}
-
-// From this start on a test for room that is a byte off, in the outbox or in the transmit buffer, would change the counts.
-pub(crate) fn run(q: Queue, l: PPPoS, buf: &mut [u8], tx: &mut [u8]) -> Queue {
-    let mut q = q;
-    let mut x = 11;
-    let mut i = 0;
-    while i < 3200 {
-        x = draw(x);
-        q = round(q, high(x), link_in(i, l), buf, tx);
-        i += 1;
+// The generator's number says how many packets are offered, how many sends follow, and into how many bytes. From this start on a test for
+// room that is a byte off, in the outbox or in the transmit buffer, would change the counts.
+pub(crate) fn run(queue: &mut Queue, link: PPPoS) {
+    let mut generator = Generator { state: 11 };
+    for round in 0..3200 {
+        let x = high(generator.draw());
+        queue.offer_some(x % 4);
+        queue.send_some(x / 4 % 5, link_in(round, link), x / 20 * 2);
     }
-    q
 }

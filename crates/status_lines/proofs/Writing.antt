@@ -3,26 +3,31 @@
 use mathlib.Core.Path.{◌≡◌, refl, ◌∙◌}
 use mathlib.Core.Bool.{Bool, true, false, cond}
 use mathlib.Core.List.{List, [], ◌++◌}
-use Prim.Native.Nat.{ℕ, ◌+◌, ◌/◌, ◌%◌, ◌≤◌, ◌<◌}
+use Prim.Native.Nat.{ℕ, ◌+◌, ◌-◌, ◌/◌, ◌%◌, ◌≤◌, ◌<◌}
 use native.Mathlib.Omega.{arith}
+use borrow.Rule.Slice.PartMut.{put_mid}
 use borrow.Author.Tests.{leb-true, le-leb, lt-leb}
 use lib.Dec.{ltb, leb, lit≤}
 use lib.ListN.{length, take, replicate, length-append, length-replicate}
 use lib.Seq.{take-append_seam}
+use Rattle.std.specs.Prelude.{Option, Some, None, Result, Ok, Err}
 use Rattle.laws.proofs.Cases.{by_test, cond_by, cond_all}
+use Rattle.laws.proofs.Lent.{put_sets}
 use Rattle.laws.proofs.Stores.{sets_append, sets_front, take_sets}
 use Rattle.phases.specs.declared.ppp.Phase.{Phase}
 use Rattle.phases.specs.declared.ppp.Phase.TheVariants.{Dead, Establish, Auth, Network, Open}
-use Rattle.options.specs.declared.ipv4cp.Shown.{Shown}
-use Rattle.options.specs.declared.ipv4cp.Shown.TheVariants.{Absent, At}
-use Rattle.phases.specs.declared.ppp.Ipv4Status.{Ipv4Status}
-use Rattle.phases.specs.declared.ppp.Ipv4Status.TheVariants.{Down, Up}
+use Rattle.phases.specs.declared.ppp.Addresses.{Addresses}
 use Rattle.phases.specs.declared.ppp.Status.{Status}
 use Rattle.status_lines.specs.declared.status.Fields.{Fields}
 use Rattle.status_lines.specs.Lines.{phase_name, up_name, decimal, dotted, address_text, address_line, address_key, peer_key, dns1_key, dns2_key, head_of, six_lines, fields_with, fields_of, lines_of, max_lines, Puts, Shows}
+use Rattle.framing.specs.Refusal.{count_of}
 use Rattle.framing.specs.declared.refusal.Refusal.TheVariants.{BufferFull}
-use Rattle.framing.specs.declared.refusal.Outcome.{Outcome}
-use Rattle.framing.specs.declared.refusal.Outcome.TheVariants.{Done, Refused}
+use Rattle.framing.specs.declared.refusal.Refusal.{Refusal}
+
+-- a text copied over a part of a buffer
+pub copied : (src buf : List ℕ) {w : List ℕ} (at : ℕ) → w ≡ src → at + length src ≤ length buf
+    → Puts src buf at (at + length src) (put_mid at (at + length src - at) buf w)
+copied src buf at e h = record { ends = refl; bytes = put_sets src buf at e h }
 
 -- a text behind another
 pub joined : {x y buf mid buf' : List ℕ} {at i end : ℕ} → Puts x buf at i mid → Puts y mid i end buf' → Puts (x ++ y) buf at end buf'
@@ -43,9 +48,9 @@ dotted_short a =
     simp length-append
     (omega (arith, decimal_short (a / 16777216 % 256), decimal_short (a / 65536 % 256), decimal_short (a / 256 % 256), decimal_short (a % 256)))
 
-pub address_short : (a : Shown) → length (address_text a) ≤ 15
-address_short Absent = lit≤ tt
-address_short (At a) = dotted_short a
+pub address_short : (a : Option ℕ) → length (address_text a) ≤ 15
+address_short None = lit≤ tt
+address_short (Some a) = dotted_short a
 
 pub phase_short : (f : Phase) → length (phase_name f) ≤ 9
 phase_short Dead = lit≤ tt
@@ -58,12 +63,12 @@ pub up_short : (b : Bool) → length (up_name b) ≤ 4
 up_short true = lit≤ tt
 up_short false = lit≤ tt
 
-pub line_short : (key : List ℕ) (a : Shown) → length (address_line key a) ≤ length key + 16
+pub line_short : (key : List ℕ) (a : Option ℕ) → length (address_line key a) ≤ length key + 16
 unfolding address_line
 line_short key a = simp length-append (omega (arith, address_short a))
 
 -- "none"
-none_short : (key : List ℕ) → length (address_line key Absent) ≤ length key + 5
+none_short : (key : List ℕ) → length (address_line key None) ≤ length key + 5
 unfolding address_line
 none_short key = simp length-append (omega arith)
 
@@ -78,11 +83,11 @@ pub lines_short : (s : Status) → length (lines_of s) ≤ max_lines
 unfolding six_lines
 lines_short s = go s.phase s.ipv4
   where
-    go : (f : Phase) (i : Ipv4Status) → length (six_lines (fields_with f i)) ≤ max_lines
-    go f Down =
+    go : (f : Phase) (i : Option Addresses) → length (six_lines (fields_with f i)) ≤ max_lines
+    go f None =
         simp length-append
         (omega (arith, head_length f false, phase_short f, none_short address_key, none_short peer_key, none_short dns1_key, none_short dns2_key))
-    go f (Up a) =
+    go f (Some a) =
         simp length-append
         (omega (
           arith,
@@ -96,6 +101,9 @@ lines_short s = go s.phase s.ipv4
 
 -- ---- what `lines` promises
 
+pub lines_count : {f : Fields} {buf text : List ℕ} {end : ℕ} (s : Status) → f ≡ fields_of s → Puts (six_lines f) buf 0 end text → end ≡ length (lines_of s)
+lines_count s e p = let q = rw e at p in omega (arith, q.ends)
+
 -- what an array of 113 bytes, room for any fields, holds of them
 pub lines_front : {f : Fields} {text : List ℕ} {end : ℕ} (s : Status) → f ≡ fields_of s → Puts (six_lines f) (replicate 113 0) 0 end text
     → take end text ≡ lines_of s
@@ -103,26 +111,26 @@ lines_front s e p =
     let q = rw e at p in
     rw (q.ends, q.bytes, take_sets (lines_of s) (replicate 113 0) 0 (rw length-replicate (omega (arith, lines_short s))))
 
-pub lines_refused : (s : Status) (buf : List ℕ) → length buf < length (lines_of s) → Shows s buf (Refused BufferFull) 0 buf
+pub lines_refused : (s : Status) (buf : List ℕ) → length buf < length (lines_of s) → Shows s buf (Err BufferFull) buf
 lines_refused s buf h =
     let e = lt-leb (length (lines_of s)) (length buf) h in
     record { number = rw e; count = rw e; bytes = rw e }
 
-pub lines_shown : {text buf buf' : List ℕ} {n end : ℕ} (s : Status) → text ≡ lines_of s → n ≡ length (lines_of s) → n ≤ length buf
-    → Puts text buf 0 end buf' → Shows s buf Done n buf'
-lines_shown {buf = buf} s f m h p =
-    let k : length (lines_of s) ≤ length buf = omega arith in
+pub lines_shown : {text buf buf' : List ℕ} {n : ℕ} (s : Status) → text ≡ lines_of s → length (lines_of s) ≤ length buf
+    → Puts text buf 0 n buf' → Shows s buf (Ok n) buf'
+lines_shown {buf = buf} s f k p =
     let e = le-leb (length (lines_of s)) (length buf) k in
-    record { number = rw e; count = rw e m; bytes = rw e (rw f at p.bytes ∙ sets_front (lines_of s) buf k) }
+    let q = rw f at p in
+    record { number = rw e; count = rw e (omega (arith, q.ends)); bytes = rw e (q.bytes ∙ sets_front (lines_of s) buf k) }
 
-pub shown_within : {s : Status} {buf buf' : List ℕ} {o : Outcome} {n : ℕ} → Shows s buf o n buf' → n ≤ length buf
+pub shown_within : {s : Status} {buf buf' : List ℕ} {r : Result ℕ Refusal} → Shows s buf r buf' → count_of r ≤ length buf
 shown_within {s} {buf} p =
     rw p.count
     (cond_by (λ (m : ℕ). m ≤ length buf) (leb (length (lines_of s)) (length buf)) (leb-true (length (lines_of s)) (length buf)) (λ _. omega arith))
 
 -- the front of that many bytes
-pub shown_front : {s : Status} {buf buf' : List ℕ} {o : Outcome} {n : ℕ} → Shows s buf o n buf'
-    → take n buf' ≡ cond (leb (length (lines_of s)) (length buf)) (lines_of s) []
+pub shown_front : {s : Status} {buf buf' : List ℕ} {r : Result ℕ Refusal} → Shows s buf r buf'
+    → take (count_of r) buf' ≡ cond (leb (length (lines_of s)) (length buf)) (lines_of s) []
 shown_front {s} {buf} p =
     by_test (leb (length (lines_of s)) (length buf))
     (λ e. rw (p.count, p.bytes, e) (take-append_seam (lines_of s) _))

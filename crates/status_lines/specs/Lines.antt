@@ -1,17 +1,14 @@
 -- The status lines (document 01, 'Status lines'): what a status says as text.
-use Rattle.std.specs.Prelude.{◌≡◌, Bool, true, false, cond, List, [], ◌∷◌, ◌++◌, ℕ, ◌+◌, ◌/◌, ◌%◌, ltb, leb, length}
+use Rattle.std.specs.Prelude.{◌≡◌, Bool, true, false, cond, List, [], ◌∷◌, ◌++◌, ℕ, ◌+◌, ◌/◌, ◌%◌, ltb, leb, length, Result, Option, Some, None}
 use Rattle.std.proofs.lemmas.List.Edits.{sets}
 use Rattle.framing.specs.Writer.{over}
 use Rattle.phases.specs.declared.ppp.Phase.{Phase}
 use Rattle.phases.specs.declared.ppp.Phase.TheVariants.{Dead, Establish, Auth, Network, Open}
-use Rattle.options.specs.declared.ipv4cp.Shown.{Shown}
-use Rattle.options.specs.declared.ipv4cp.Shown.TheVariants.{Absent, At}
-use Rattle.phases.specs.declared.ppp.Ipv4Status.{Ipv4Status}
-use Rattle.phases.specs.declared.ppp.Ipv4Status.TheVariants.{Down, Up}
+use Rattle.phases.specs.declared.ppp.Addresses.{Addresses}
 use Rattle.phases.specs.declared.ppp.Status.{Status}
 use Rattle.status_lines.specs.declared.status.Fields.{Fields}
-use Rattle.framing.specs.Refusal.{outcome_number}
-use Rattle.framing.specs.declared.refusal.Outcome.{Outcome}
+use Rattle.framing.specs.Refusal.{outcome_number, count_of}
+use Rattle.framing.specs.declared.refusal.Refusal.{Refusal}
 
 -- "dead", "establish", "auth", "network", "open"
 abbrev pub phase_name : Phase → List ℕ
@@ -39,9 +36,9 @@ dotted a =
     decimal (a / 16777216 % 256) ++ (46 ∷ (decimal (a / 65536 % 256) ++ (46 ∷ (decimal (a / 256 % 256) ++ (46 ∷ decimal (a % 256))))))
 
 -- "none" where there is no address
-abbrev pub address_text : Shown → List ℕ
-address_text Absent = 110 ∷ 111 ∷ 110 ∷ 101 ∷ []
-address_text (At a) = dotted a
+abbrev pub address_text : Option ℕ → List ℕ
+address_text None = 110 ∷ 111 ∷ 110 ∷ 101 ∷ []
+address_text (Some a) = dotted a
 
 -- a key with its "=", a value, LF
 abbrev pub line : List ℕ → List ℕ → List ℕ
@@ -71,7 +68,7 @@ unfoldable pub head_of : Phase → Bool → List ℕ
 head_of f up = line phase_key (phase_name f) ++ line ipv4_key (up_name up)
 
 -- a line with an address
-unfoldable pub address_line : List ℕ → Shown → List ℕ
+unfoldable pub address_line : List ℕ → Option ℕ → List ℕ
 address_line key a = line key (address_text a)
 
 -- what is said, in the order of the six lines
@@ -82,9 +79,9 @@ six_lines s =
     ++ (address_line peer_key s.peer ++ (address_line dns1_key s.dns1 ++ address_line dns2_key s.dns2)))
 
 -- what the lines say of a status: no address while IPv4 is down
-abbrev pub fields_with : Phase → Ipv4Status → Fields
-fields_with f Down = record { phase = f; up = false; address = Absent; peer = Absent; dns1 = Absent; dns2 = Absent }
-fields_with f (Up a) =
+abbrev pub fields_with : Phase → Option Addresses → Fields
+fields_with f None = record { phase = f; up = false; address = None; peer = None; dns1 = None; dns2 = None }
+fields_with f (Some a) =
     record { phase = f; up = true; address = a.address; peer = a.peer_address; dns1 = a.dns_server_1; dns2 = a.dns_server_2 }
 
 abbrev pub fields_of : Status → Fields
@@ -103,7 +100,7 @@ pub record Puts (text buf : List ℕ) (at end : ℕ) (buf' : List ℕ) : Type 0 
   pub bytes : buf' ≡ sets buf at text
 
 -- the refusal number, the count and the buffer: all lines at its front, or refusal 1 and nothing written
-pub record Shows (s : Status) (buf : List ℕ) (o : Outcome) (n : ℕ) (buf' : List ℕ) : Type 0 where
-  pub number : outcome_number o ≡ cond (leb (length (lines_of s)) (length buf)) 0 1
-  pub count : n ≡ cond (leb (length (lines_of s)) (length buf)) (length (lines_of s)) 0
+pub record Shows (s : Status) (buf : List ℕ) (r : Result ℕ Refusal) (buf' : List ℕ) : Type 0 where
+  pub number : outcome_number r ≡ cond (leb (length (lines_of s)) (length buf)) 0 1
+  pub count : count_of r ≡ cond (leb (length (lines_of s)) (length buf)) (length (lines_of s)) 0
   pub bytes : buf' ≡ cond (leb (length (lines_of s)) (length buf)) (over (lines_of s) buf) buf

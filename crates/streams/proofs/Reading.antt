@@ -1,15 +1,10 @@
 -- What two reads consumed, one after the other.
-use Rattle.std.proofs.Common.{◌≡◌, ◌≤◌, ℕ, ◌+◌, List, ◌++◌, None, Some, length, take, sym, ap, subst, ◌∙◌, append_assoc}
+use Rattle.std.proofs.Common.{◌≡◌, ◌≤◌, ℕ, ◌+◌, List, ◌++◌, length, take, sym, ap, subst, ◌∙◌}
 use Rattle.std.proofs.Math.Seq.{take-append-add}
 use Rattle.std.proofs.lemmas.List.{take-append-le}
 use Rattle.std.specs.declared.option.Option.{Option}
 use Rattle.std.specs.Io.KnownBytes.{Consumes}
-
-pub Consumes_trans : (a b c : Option (List ℕ)) (bs cs : List ℕ) → Consumes a b bs → Consumes b c cs → Consumes a c (bs ++ cs)
-Consumes_trans None b c bs cs p q = tt
-Consumes_trans (Some x) None c bs cs p q = absurd p
-Consumes_trans (Some x) (Some y) None bs cs p q = absurd q
-Consumes_trans (Some x) (Some y) (Some z) bs cs p q = p ∙ ap (λ l. bs ++ l) q ∙ sym (append_assoc bs cs z)
+use Rattle.std.proofs.KnownBytes.{Consumes-trans}
 
 pub take-grown : (front part rest : List ℕ) (f n : ℕ) → length front ≡ f → n ≤ length part → take (f + n) (front ++ (part ++ rest)) ≡ front ++ take n part
 take-grown front part rest f n long fits = subst (λ k. take (k + n) (front ++ (part ++ rest)) ≡ front ++ take n part) long (take-append-add front (part ++ rest) n ∙ ap (λ l. front ++ l) (take-append-le n part rest fits))
@@ -17,4 +12,4 @@ take-grown front part rest f n long fits = subst (λ k. take (k + n) (front ++ (
 -- What a read gave stands behind the front that the reads before it gave.
 pub Consumes_grown : (a b c : Option (List ℕ)) (front part rest : List ℕ) (f n : ℕ) → length front ≡ f → n ≤ length part → Consumes a b front → Consumes b c (take n part)
     → Consumes a c (take (f + n) (front ++ (part ++ rest)))
-Consumes_grown a b c front part rest f n long fits p q = subst (Consumes a c) (sym (take-grown front part rest f n long fits)) (Consumes_trans a b c front (take n part) p q)
+Consumes_grown a b c front part rest f n long fits p q = subst (Consumes a c) (sym (take-grown front part rest f n long fits)) (Consumes-trans a b c front (take n part) p q)

@@ -6,7 +6,8 @@ ghost use Rattle.std.specs.Io.KnownBytes.{Consumes, IsAtEnd};
 
 use std::io::{self, Read};
 
-// Reads until `buf` is full or the input ends, and answers how many bytes it put at the start of `buf`.
+// Reads until `buf` is full or the input ends, and answers how many bytes it put at the start of `buf`. A `while`, since it counts what
+// the reader gave, which no iterator does.
 pub fn read_full<R: Read>(input: &mut R, buf: &mut [u8]) -> io::Result<usize>
     ensures bound { IfOk result (λ n. n ≤ length buf.new) }
     ensures bytes { IfOk result (λ n. Consumes (R.remaining input.old) (R.remaining input.new) (take n buf.new)) }

@@ -1,5 +1,5 @@
 -- Document 01's worked examples K1 to K13: what the definitions give, beside what the document says.
-use Rattle.std.specs.Prelude.{List, [], ◌∷◌, ℕ, ◌-◌, take, replicate}
+use Rattle.std.specs.Prelude.{List, [], ◌∷◌, ℕ, ◌-◌, take, replicate, Result, Ok, Err}
 use Rattle.framing.specs.Rfc1662.{fcs, frame}
 use Rattle.framing.specs.Reader.{Held, held, fed, fresh_reader, packet_of}
 use Rattle.framing.specs.declared.frame_reader.State.{State}
@@ -7,8 +7,7 @@ use Rattle.framing.specs.declared.frame_reader.State.TheVariants.{Start, Address
 use Rattle.framing.specs.declared.frame_reader.Reading.{Reading}
 use Rattle.framing.specs.declared.frame_reader.Reading.TheVariants.{Crate, Standard}
 use Rattle.options.specs.Refusal.{number_of, values_of}
-use Rattle.options.specs.declared.refusal.Outcome.{Outcome}
-use Rattle.options.specs.declared.refusal.Outcome.TheVariants.{Done, Refused}
+use Rattle.options.specs.declared.refusal.Refusal.{Refusal}
 use Rattle.negotiation.specs.Pap.{pap_bytes, fresh_pap}
 use Rattle.negotiation.specs.Messages.{next_id, request_bytes}
 use Rattle.negotiation.specs.Credentials.{credentials_with}
@@ -17,7 +16,8 @@ use Rattle.negotiation.specs.declared.states.State as fsm
 use Rattle.phases.specs.declared.ppp.Ppp.{Ppp}
 use Rattle.link.specs.Link.{Poll, new_link, open_link, poll_link, action_number}
 use Rattle.link.specs.declared.pppos.PPPoSAction.{PPPoSAction}
-use Rattle.link.specs.declared.pppos.PPPoSAction.TheVariants.{Idle, Received, Transmit, Declined}
+use Rattle.link.specs.declared.pppos.PPPoSAction.TheVariants.{Idle, Received, Transmit}
+use Rattle.link.specs.declared.refusal.Refusal as link
 
 pub record Example : Type 0 where
   pub found : List ℕ
@@ -60,11 +60,11 @@ abbrev pub first_poll : ℕ → Poll
 first_poll room = poll_link (open_link (new_link [] [] (record { reading = Crate }))) (replicate room 0) []
 
 -- the count of an action, and what stands there
-abbrev pub counted : PPPoSAction → ℕ
-counted Idle = 0
-counted (Received from to) = 0
-counted (Transmit n) = n
-counted (Declined r) = 0
+abbrev pub counted : Result PPPoSAction link.Refusal → ℕ
+counted (Ok Idle) = 0
+counted (Ok (Received from to)) = 0
+counted (Ok (Transmit n)) = n
+counted (Err r) = 0
 
 abbrev pub transmits : Poll → List ℕ
 transmits p = counted p.action ∷ take (counted p.action) p.tx
@@ -99,9 +99,9 @@ abbrev pub cut_behind : ℕ → List ℕ
 cut_behind code = 0xC0 ∷ 0x21 ∷ code ∷ 0x07 ∷ 0x00 ∷ 0x0B ∷ 0x02 ∷ 0x06 ∷ 0x01 ∷ 0x02 ∷ 0x03 ∷ 0x04 ∷ 0x02 ∷ []
 
 -- an outcome's number and the values beside it
-abbrev pub told : Outcome → List ℕ
-told Done = 0 ∷ []
-told (Refused why) = number_of why ∷ values_of why
+abbrev pub told : Result Unit Refusal → List ℕ
+told (Ok x) = 0 ∷ []
+told (Err why) = number_of why ∷ values_of why
 
 abbrev pub table : List Example
 table =

@@ -1,31 +1,25 @@
-use Rattle.feeding.proofs.Feeding.{starts, within, again, still_few, finished, idle_most}
+use Rattle.feeding.proofs.Feeding.{starts, again, still_all, still_few, finished}
 use native.Mathlib.Omega.{arith}
-use mathlib.Core.Path.{refl}
-use Prim.Native.Nat.{◌<◌}
+use Rattle.options.proofs.Walks.{some_left, none_left}
 use Rattle.feeding.proofs.feed.feed.Goals as goal
 
-pub loop-at-init : goal.loop-at-init
-loop-at-init c = (omega arith, omega arith, refl, refl, rw c.none-drops.ensures (starts _ _ _ _), rw c.none-drops.ensures (omega arith))
+pub loop-rest-init : goal.loop-rest-init
+loop-rest-init c = (omega arith, rw c.none.ensures (starts _ _ _ _), rw c.none.ensures (omega arith))
 
-pub returns-then-idle-eq2 : goal.returns-then-idle-eq2
-returns-then-idle-eq2 c = let l = c.loop-at in
-    finished c.args.src.now l.at (omega arith) (λ z. omega arith) l.invariant.4
-
-pub loop-at-preserved : goal.loop-at-preserved
-loop-at-preserved c = let l = c.loop-at in
-    let src = c.args.src.now in
-    let t = c.turn-t in
-    let w = within src l.at (omega arith) t.ensures in
-    let small : l.idle < 2 = omega (arith, c.if-idle-eq2.false, l.invariant.1) in
+pub loop-rest-preserved : goal.loop-rest-preserved
+loop-rest-preserved c = let l = c.loop-rest in
+    let left = l.rest.now in
+    let t = c.turn-t.ensures in
     let e = c.idle_after-idle.ensures in (
-      w,
-      rw e (idle_most l.idle t.result.count small),
-      omega arith,
-      omega arith,
-      rw e (again src l.at c.loop-at-test.true small l.invariant.4 t.ensures),
-      still_few src l.at l.l l.tx l.rx l.drops l.invariant.5 t.ensures,
+      still_all l.fed.count left l.invariant.0 t,
+      rw e (again left (some_left c.is_empty.ensures c.loop-rest-test.true) (omega arith) l.invariant.1 t),
+      still_few l.fed.link l.tx l.rx left l.fed.drops l.invariant.2 t,
     )
 
-pub returns : goal.returns
-returns c = let l = c.loop-at in
-    finished c.args.src.now l.at (omega arith) (λ z. omega arith) l.invariant.4
+pub returns-else-idle-lt2 : goal.returns-else-idle-lt2
+returns-else-idle-lt2 c = let l = c.loop-rest in
+    finished c.args.src.now l.rest.now l.invariant.0 (λ z. omega arith) l.invariant.1
+
+pub returns-after-loop-rest : goal.returns-after-loop-rest
+returns-after-loop-rest c = let l = c.loop-rest in
+    finished c.args.src.now l.rest.now l.invariant.0 (λ z. omega (arith, none_left c.is_empty.ensures c.loop-rest-test.false)) l.invariant.1

@@ -1,14 +1,14 @@
 use Rattle.feeding.proofs.Feeding.{Ahead}
 use mathlib.Core.Path.{◌≡◌}
 use Prim.Native.Nat.{◌+◌, ◌-◌, ◌*◌, ◌≤◌}
-use lib.ListN.{length, drop}
+use lib.ListN.{length}
 use Rattle.framing.specs.Drops.{all_of}
 use Rattle.feeding.specs.Feed.{progress_of, fed_link}
 use Rattle.feeding.proofs.feed.feed.Given as goal
 
-abbrev pub invariant-loop-at : goal.invariant-loop-at
-invariant-loop-at l = (l.at ≤ length l.src) × (l.idle ≤ 2) × (length l.tx ≡ length l.initial.tx) × (length l.rx ≡ length l.initial.rx)
-    × Ahead l.idle (progress_of l.l l.tx l.rx (drop l.at l.src) l.drops) (fed_link l.initial.l l.initial.tx l.initial.rx l.src) × (all_of l.drops ≤ l.at)
+abbrev pub invariant-loop-rest : goal.invariant-loop-rest
+invariant-loop-rest l = (l.fed.count + length l.rest ≡ length l.src)
+    × Ahead l.idle (progress_of l.fed.link l.tx l.rx l.rest l.fed.drops) (fed_link l.initial.fed.link l.initial.tx l.initial.rx l.src) × (all_of l.fed.drops ≤ l.fed.count)
 
-abbrev pub decreases-loop-at : goal.decreases-loop-at
-decreases-loop-at l = 2 * (length l.src - l.at) + (2 - l.idle)
+abbrev pub decreases-loop-rest : goal.decreases-loop-rest
+decreases-loop-rest l = 2 * length l.rest + (2 - l.idle)

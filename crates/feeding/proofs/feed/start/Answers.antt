@@ -3,4 +3,4 @@ use Rattle.feeding.proofs.feed.start.Goals as goal
 
 pub returns : goal.returns
 returns c =
-    start_polls _ _ c.new-c.ensures c.open-o.ensures c.poll.ensures
+    start_polls _ _ c.new-made.ensures c.open.ensures c.poll.ensures

@@ -4,4 +4,4 @@ use Rattle.framing.specs.Table.{mixed}
 use Rattle.framing.proofs.crc.step.Goals as goal
 
 pub returns : goal.returns
-returns c = ap (mixed c.args.seed) c.wide-f.ensures ∙ formula c.args.seed c.args.b c.ranges.b.fits
+returns c = ap (mixed c.args.seed) c.from-f.ensures ∙ formula c.args.seed c.args.b c.ranges.b.fits

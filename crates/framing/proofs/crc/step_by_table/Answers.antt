@@ -1,6 +1,3 @@
-use mathlib.Core.Path.{ap, sym, subst, ◌∙◌}
-use Prim.Native.Nat.{ℕ, ◌/◌, ◌<◌}
-use lib.ListN.{get_or, length}
 use lib.Bits.{bit_xor}
 use Rattle.framing.proofs.ByTable.{table_inside, table_step}
 use Rattle.framing.proofs.crc.step_by_table.Goals as goal
@@ -8,10 +5,9 @@ use Rattle.framing.proofs.crc.step_by_table.Goals as goal
 pub bounds-table-index : goal.bounds-table-index
 bounds-table-index c =
     let t = c.args.table.now in
-    subst (λ (x : ℕ). x < length t) (sym c.index.ensures) (table_inside t c.requires (bit_xor c.args.seed c.args.b))
+    rw (c.index.ensures, c.from.ensures) (table_inside t c.requires (bit_xor c.args.seed c.args.b))
 
 pub returns : goal.returns
 returns c =
     let t = c.args.table.now in
-    ap (λ (x : ℕ). bit_xor (c.args.seed / 256) (get_or t x 0)) c.index.ensures
-    ∙ table_step t c.requires c.args.seed c.args.b c.ranges.b.fits
+    rw (c.from-2.ensures, c.index.ensures, c.from.ensures) (table_step t c.requires c.args.seed c.args.b c.ranges.b.fits)

@@ -4,7 +4,7 @@ use Rattle.framing.proofs.frame_writer.escapes.Goals as goal
 
 pub returns-then-b-lt32 : goal.returns-then-b-lt32
 unfolding escaped
-returns-then-b-lt32 c = simp (lt-ltb _ _ c.if-b-lt32.true)
+returns-then-b-lt32 c = simp (c.from.ensures, lt-ltb _ _ c.if-b-lt32.true)
 
 pub returns-then-b-eq125 : goal.returns-then-b-eq125
 unfolding escaped

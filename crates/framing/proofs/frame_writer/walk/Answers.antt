@@ -1,37 +1,34 @@
-use borrow.Author.Rules.{rules}
-use mathlib.Core.Path.{◌≡◌, sym, ◌∙◌}
+use mathlib.Core.Path.{◌≡◌, refl, sym, ◌∙◌}
 use mathlib.Core.List.{[]}
 use Prim.Native.Nat.{◌+◌}
 use native.Mathlib.Omega.{arith}
 use lib.ListN.{drop, drop_of_length-le}
+use Rattle.laws.proofs.Passed.{passed}
 use Rattle.framing.specs.Writer.{units}
-use Rattle.framing.proofs.Run.{onward_turn, onward_stop, onward_none, run_within, units-drop}
+use Rattle.framing.proofs.Run.{run_next, run_stop, run_is, run_none, units-drop}
 use Rattle.framing.proofs.Fcs.{fcs_turn, fcs_end}
 use Rattle.framing.proofs.frame_writer.walk.Goals as goal
 
-pub loop-p-preserved : goal.loop-p-preserved
-loop-p-preserved c =
+pub loop-b-preserved : goal.loop-b-preserved
+loop-b-preserved c =
     let a = c.args in
-    let n = c.loop-p.i in
-    let h = c.if-i-src.true in
-    let u = units-drop a.asyncmap a.src.now n h in (
-      omega (arith, h),
-      run_within c.append_byte-p.ensures c.loop-p.invariant.1,
-      search rules,
-      onward_turn c.append_byte-p.ensures (units a.asyncmap (drop (n + 1) a.src.now)) ∙ rw (c.loop-p-test.true, u) at c.loop-p.invariant.3,
-      fcs_turn _ _ n a.src.now h c.step-check.ensures c.loop-p.invariant.4,
+    let n = c.loop-b.b-index in
+    let u = units-drop a.asyncmap a.src.now n (omega arith) in (
+      sym (run_next c.in_ok-at.ensures refl (units a.asyncmap (drop (n + 1) a.src.now))) ∙ rw u at c.loop-b.invariant.0,
+      fcs_turn _ _ n a.src.now (omega arith) c.step-crc.ensures c.loop-b.invariant.1,
     )
 
-pub returns-else-i-src : goal.returns-else-i-src
-unfolding units
-returns-else-i-src c =
-    let s = c.args.src.now in
-    let h = c.if-i-src.false in
-    let e : drop c.loop-p.i s ≡ [] = drop_of_length-le s h in
-    record { ran = onward_none c.loop-p.p.done (rw e at c.loop-p.invariant.3); check = λ _. sym (fcs_end _ c.loop-p.i s h) ∙ c.loop-p.invariant.4 }
+pub returns-in_err-at : goal.returns-in_err-at
+returns-in_err-at c =
+    let a = c.args in
+    let n = c.loop-b.b-index in
+    let u = units-drop a.asyncmap a.src.now n (omega arith) in
+    rw (passed _ _ c.from_residual.ensures.1)
+    (record { ran = run_is (run_stop c.in_err-at.ensures refl (units a.asyncmap (drop (n + 1) a.src.now))) (rw u at c.loop-b.invariant.0); check = λ d. cc })
 
-pub returns-after-loop-p : goal.returns-after-loop-p
+pub returns : goal.returns
 unfolding units
-returns-after-loop-p c =
-    let us = units c.args.asyncmap (drop c.loop-p.i c.args.src.now) in
-    record { ran = onward_stop us c.loop-p.invariant.3 c.loop-p-test.false; check = λ d. cc }
+returns c =
+    let s = c.args.src.now in
+    let e : drop c.loop-b.b-index s ≡ [] = drop_of_length-le s (omega arith) in
+    record { ran = run_is (run_none refl) (rw e at c.loop-b.invariant.0); check = λ _. sym (fcs_end _ c.loop-b.b-index s (omega arith)) ∙ c.loop-b.invariant.1 }

@@ -9,4 +9,4 @@ returns c =
     let h = pushes c.push_all.ensures c.blank.ensures.1 (omega arith) in
     let k = pushes c.push_all-2.ensures h.tidy (simp (length-take, length-drop) (omega (arith, h.len))) in
     let e = pushed_fresh _ c.blank.ensures.0 (pushed_both h k) in
-    simp be_two (rw (← c.protocol-v.ensures, ← rest c.args.p.now 3) e)
+    simp be_two (rw (← c.protocol.ensures, ← rest c.args.p.now 3) (rw c.to_be_bytes.ensures at e))

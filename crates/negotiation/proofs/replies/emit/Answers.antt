@@ -7,4 +7,5 @@ pub returns : goal.returns
 returns c = let b = c.blank in
     let h = pushes c.push_all.ensures b.ensures.1 (omega arith) in
     let k = pushes c.push_all-2.ensures h.tidy (omega (arith, h.len)) in
-    simp be_two (pushed_fresh _ b.ensures.0 (pushed_both h k))
+    let e = pushed_fresh _ b.ensures.0 (pushed_both h k) in
+    simp be_two (rw (c.to_be_bytes.ensures, c.to_be_bytes-2.ensures) at e)

@@ -6,9 +6,6 @@ use Rattle.status_lines.proofs.status.put_head.Goals as goal
 pub returns : goal.returns
 unfolding head_of
 returns c =
-    simp append_assoc
-    (joined c.put-i.ensures
-    (joined c.put_phase-i.ensures
-    (joined c.put-i-2.ensures
-    (joined c.put_up-i.ensures
-    c.put.ensures))))
+    let name = rw c.phase_name.ensures at c.put-i-2.ensures in
+    let up = rw c.up_name.ensures at c.put-i-4.ensures in
+    simp append_assoc (joined c.put-i.ensures (joined name (joined c.put-i-3.ensures (joined up c.put.ensures))))

@@ -3,30 +3,20 @@ use Rattle.framing.specs.Reader.{step}
 use Rattle.framing.specs.Drops.{fault_at}
 use Rattle.framing.proofs.frame_reader.FrameReader.step.Goals as goal
 
-pub returns-then-b-eq255 : goal.returns-then-b-eq255
+pub returns-in-Start : goal.returns-in-Start
 unfolding step fault_at
-returns-then-b-eq255 c = let at = c.in-Address.is in
-    (simp (at, eq-eqb _ _ c.if-b-eq255.true, c.to-then-b-eq255.ensures.0), simp (at, c.to-then-b-eq255.ensures.1))
+returns-in-Start c = let at = c.in-Start.is in
+    (simp (at, c.to.ensures.0, c.sought.ensures), simp (at, c.to.ensures.1))
 
-pub returns-then-b-eq126 : goal.returns-then-b-eq126
+pub returns-in-Address : goal.returns-in-Address
 unfolding step fault_at
-returns-then-b-eq126 c = let at = c.in-Start.is in
-    (simp (at, eq-eqb _ _ c.if-b-eq126.true, c.to.ensures.0), simp (at, c.to.ensures.1))
+returns-in-Address c = let at = c.in-Address.is in
+    (simp (at, eq-eqb _ _ c.if-b-eq255.true, c.to-in-Address.ensures.0), simp (at, c.to-in-Address.ensures.1))
 
-pub returns-else-b-eq126 : goal.returns-else-b-eq126
+pub returns-in-Address-2 : goal.returns-in-Address-2
 unfolding step fault_at
-returns-else-b-eq126 c = let at = c.in-Start.is in
-    (simp (at, ne_eqb _ _ c.if-b-eq126.false, c.to-else-b-eq126.ensures.0), simp (at, c.to-else-b-eq126.ensures.1))
-
-pub returns-then-b-eq126-2 : goal.returns-then-b-eq126-2
-unfolding step fault_at
-returns-then-b-eq126-2 c = let at = c.in-Address.is in
-    (simp (at, ne_eqb _ _ c.if-b-eq255.false, eq-eqb _ _ c.if-b-eq126-2.true, c.to-then-b-eq126-2.ensures.0), simp (at, c.to-then-b-eq126-2.ensures.1))
-
-pub returns-else-b-eq126-2 : goal.returns-else-b-eq126-2
-unfolding step fault_at
-returns-else-b-eq126-2 c = let at = c.in-Address.is in
-    (simp (at, ne_eqb _ _ c.if-b-eq255.false, ne_eqb _ _ c.if-b-eq126-2.false, c.to-else-b-eq126-2.ensures.0), simp (at, c.to-else-b-eq126-2.ensures.1))
+returns-in-Address-2 c = let at = c.in-Address-2.is in
+    (simp (at, ne_eqb _ _ c.if-b-eq255.false, c.to-in-Address-2.ensures.0, c.sought-in-Address-2.ensures), simp (at, c.to-in-Address-2.ensures.1))
 
 pub returns-in-Data : goal.returns-in-Data
 unfolding step fault_at

@@ -5,6 +5,7 @@ use lib.ListN.{take, drop}
 use native.Mathlib.Omega.{arith}
 use Rattle.phases.specs.Phases.{Turn}
 use Rattle.phases.proofs.Phasing.{turn_sends}
+use Rattle.std.specs.Prelude.{Ok}
 use Rattle.link.specs.Link.{answered_poll}
 use Rattle.link.specs.declared.pppos.PPPoS.{PPPoS}
 use Rattle.link.specs.declared.pppos.PPPoSAction.TheVariants.{Received}
@@ -12,7 +13,7 @@ use Rattle.link.proofs.pppos.PPPoS.poll_packet.Goals as goal
 
 pub returns-then-is_ip : goal.returns-then-is_ip
 returns-then-is_ip c = let a = c.args in
-    ap (λ (l : PPPoS). polled (Received 3 a.to) l a.tx.now a.rx.now) c.with_reader.ensures
+    ap (λ (l : PPPoS). polled (Ok (Received 3 a.to)) l a.tx.now a.rx.now) c.with_reader.ensures
     ∙ sym (packet_ip a.self a.r a.to a.tx.now a.rx.now _ (sym c.is_ip.ensures ∙ c.if-is_ip.true))
 
 pub answer-requires : goal.answer-requires

@@ -4,4 +4,4 @@ use Rattle.negotiation.proofs.credentials.Credentials.with.Goals as goal
 
 pub returns : goal.returns
 returns c = let a = c.args in
-    rw (c.place-bytes.ensures, c.place.ensures, placed a.username.now a.password.now c.requires) refl
+    rw (c.place-2.ensures, c.place.ensures, placed a.username.now a.password.now c.requires) refl

@@ -16,7 +16,7 @@ pub returns-then-p-len-2 : goal.returns-then-p-len-2
 unfolding pap_handle_of
 returns-then-p-len-2 c = let l = length c.args.p.now in
     let n = c.length_in-len in
-    rw (le-ltb l 6 (omega arith), ← n.ensures, le-ltb l n.result (omega arith), lt-ltb l (n.result + 2) (omega arith), c.none.ensures.0) refl
+    rw (le-ltb l 6 (omega arith), ← n.ensures, le-ltb l n.result (omega arith), lt-ltb l (n.result + 2) (omega arith), c.ignore-then-p-len-2.ensures) refl
 
 pub returns : goal.returns
 unfolding pap_handle_of

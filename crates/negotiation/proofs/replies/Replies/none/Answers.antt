@@ -4,4 +4,4 @@ use Rattle.negotiation.proofs.replies.Replies.none.Goals as goal
 
 pub returns : goal.returns
 unfolding replies_of
-returns c = (rw c.blank-p.ensures.0 refl, refl)
+returns c = (rw c.blank.ensures.0 refl, refl)

@@ -1,8 +1,7 @@
 use mathlib.Core.Path.{refl}
-use native.Mathlib.Omega.{arith}
 use Rattle.options.specs.Lcp.{suggestion_lcp}
 use Rattle.options.proofs.lcp.Lcp.suggestion.Goals as goal
 
 pub returns : goal.returns
 unfolding suggestion_lcp
-returns c = (refl, omega arith)
+returns c = refl

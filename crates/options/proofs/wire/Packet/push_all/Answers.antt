@@ -1,26 +1,14 @@
-use Prim.Native.Nat.{◌+◌}
-use mathlib.Core.Path.{◌≡◌, refl}
-use borrow.Author.Tests.{le-leb, lt-leb}
-use native.Mathlib.Omega.{arith}
-use lib.ListN.{length}
-use lib.Seq.{drop-length}
-use Rattle.options.specs.Wire.{max_packet, pushed_all}
+use Rattle.options.proofs.Wires.{push_long, push_mid}
 use Rattle.options.proofs.wire.Packet.push_all.Goals as goal
+use Rattle.options.proofs.wire.Packet.push_all.Goals.{then-self-gt-MAX_PACKET-via-then-self-gt-MAX_PACKET, then-self-gt-MAX_PACKET-via-else-self-gt-MAX_PACKET+then-self-d}
+use native.Mathlib.Omega.{arith}
+use borrow.Author.Rules.{rules}
 
-pub returns-then-n-gt-MAX_PACKET : goal.returns-then-n-gt-MAX_PACKET
-unfolding pushed_all
-returns-then-n-gt-MAX_PACKET c = let a = c.args in
-    rw (lt-leb (a.self.len + length a.d.now) max_packet (omega arith)) refl
-
-pub returns-then-n-d : goal.returns-then-n-d
-unfolding pushed_all
-returns-then-n-d c = let a = c.args in
-    rw (lt-leb (a.self.len + length a.d.now) max_packet (omega arith)) refl
+pub returns-then-self-gt-MAX_PACKET : goal.returns-then-self-gt-MAX_PACKET
+returns-then-self-gt-MAX_PACKET c = push_long c.args.self c.args.d.now (elim c.then-self-gt-MAX_PACKET.branch [
+  | then-self-gt-MAX_PACKET-via-then-self-gt-MAX_PACKET w ↦ omega arith
+  | then-self-gt-MAX_PACKET-via-else-self-gt-MAX_PACKET+then-self-d w ↦ omega arith
+])
 
 pub returns : goal.returns
-unfolding pushed_all
-returns c = let l = c.loop-i in
-    let a = c.args in
-    let e : l.i ≡ length a.d.now = omega arith in
-    let n : a.self.len + length a.d.now ≡ l.p.len = omega arith in
-    rw (le-leb (a.self.len + length a.d.now) max_packet (omega arith), ← l.invariant.2, e, drop-length, n) refl
+returns c = push_mid c.args.self c.copy_from_slice.ensures.after (search rules) (omega arith)

@@ -8,7 +8,7 @@ pub returns-then-is_opened : goal.returns-then-is_opened
 unfolding network_of
 returns-then-is_opened c =
     let up : is_opened c.args.self.ipv4cp.state ≡ true = sym c.is_opened.ensures ∙ c.if-is_opened.true in
-    rw up (rw c.with_phase.ensures at c.still.ensures)
+    rw up c.still.ensures
 
 pub returns : goal.returns
 unfolding network_of

@@ -1,9 +1,5 @@
-use mathlib.Core.Bool.{false}
-use mathlib.Core.Path.{◌≡◌, refl}
-use native.Mathlib.Omega.{arith}
-use borrow.Author.Tests.{lt-ltb, le-ltb, eq-eqb, ne_eqb}
-use lib.Dec.{ltb}
-use lib.ListN.{length}
+use Rattle.std.proofs.Common.{rules, length, arith, le-ltb, lt-ltb, ne_eqb}
+use Rattle.laws.proofs.Be.{be_pair}
 use Rattle.phases.specs.Phases.{received_of}
 use Rattle.phases.proofs.ppp.Ppp.received.Goals as goal
 
@@ -11,37 +7,25 @@ pub returns-then-pkt-lt2 : goal.returns-then-pkt-lt2
 unfolding received_of
 returns-then-pkt-lt2 c = rw (lt-ltb (length c.args.pkt.now) 2 (omega arith)) c.refuse.ensures
 
-pub returns-then-protocol : goal.returns-then-protocol
-unfolding received_of
-returns-then-protocol c =
-    let whole : ltb (length c.args.pkt.now) 2 ≡ false = le-ltb (length c.args.pkt.now) 2 (omega arith) in
-    let n = c.protocol_in-protocol in
-    rw (whole, ← n.ensures, eq-eqb n.result 0xC021 c.if-protocol.true) c.received_lcp.ensures
+pub overflow_cast-protocol_in : goal.overflow_cast-protocol_in
+overflow_cast-protocol_in c = let d = c.args.pkt.now in omega (arith, be_pair d (omega arith), c.protocol_in.ensures, c.type_inv.pkt 0, c.type_inv.pkt 1)
 
-pub returns-then-protocol-2 : goal.returns-then-protocol-2
+pub returns-in-49185 : goal.returns-in-49185
 unfolding received_of
-returns-then-protocol-2 c =
-    let whole : ltb (length c.args.pkt.now) 2 ≡ false = le-ltb (length c.args.pkt.now) 2 (omega arith) in
-    let n = c.protocol_in-protocol in
-    rw (whole, ← n.ensures, ne_eqb n.result 0xC021 c.if-protocol.false, eq-eqb n.result 0xC023 c.if-protocol-2.true) c.received_pap.ensures
+returns-in-49185 c = rw (le-ltb (length c.args.pkt.now) 2 (omega arith), ← c.protocol_in.ensures, c.in-49185.is) c.received_lcp.ensures
 
-pub returns-then-protocol-3 : goal.returns-then-protocol-3
+pub returns-in-49187 : goal.returns-in-49187
 unfolding received_of
-returns-then-protocol-3 c =
-    let whole : ltb (length c.args.pkt.now) 2 ≡ false = le-ltb (length c.args.pkt.now) 2 (omega arith) in
-    let n = c.protocol_in-protocol in
-    rw (whole, ← n.ensures, ne_eqb n.result 0xC021 c.if-protocol.false, ne_eqb n.result 0xC023 c.if-protocol-2.false, eq-eqb n.result 0x0021 c.if-protocol-3.true, c.none.ensures.0) refl
+returns-in-49187 c = rw (le-ltb (length c.args.pkt.now) 2 (omega arith), ← c.protocol_in.ensures, c.in-49187.is) c.received_pap.ensures
 
-pub returns-then-protocol-4 : goal.returns-then-protocol-4
+pub returns-in-33 : goal.returns-in-33
 unfolding received_of
-returns-then-protocol-4 c =
-    let whole : ltb (length c.args.pkt.now) 2 ≡ false = le-ltb (length c.args.pkt.now) 2 (omega arith) in
-    let n = c.protocol_in-protocol in
-    rw (whole, ← n.ensures, ne_eqb n.result 0xC021 c.if-protocol.false, ne_eqb n.result 0xC023 c.if-protocol-2.false, ne_eqb n.result 0x0021 c.if-protocol-3.false, eq-eqb n.result 0x8021 c.if-protocol-4.true) c.received_ipv4cp.ensures
+returns-in-33 c = rw (le-ltb (length c.args.pkt.now) 2 (omega arith), ← c.protocol_in.ensures, c.in-33.is) c.ignore.ensures
 
-pub returns : goal.returns
+pub returns-in-32801 : goal.returns-in-32801
 unfolding received_of
-returns c =
-    let whole : ltb (length c.args.pkt.now) 2 ≡ false = le-ltb (length c.args.pkt.now) 2 (omega arith) in
-    let n = c.protocol_in-protocol in
-    rw (whole, ← n.ensures, ne_eqb n.result 0xC021 c.if-protocol.false, ne_eqb n.result 0xC023 c.if-protocol-2.false, ne_eqb n.result 0x0021 c.if-protocol-3.false, ne_eqb n.result 0x8021 c.if-protocol-4.false) c.send_protocol_reject.ensures
+returns-in-32801 c = rw (le-ltb (length c.args.pkt.now) 2 (omega arith), ← c.protocol_in.ensures, c.in-32801.is) c.received_ipv4cp.ensures
+
+pub returns-in_default : goal.returns-in_default
+unfolding received_of
+returns-in_default c = rw (le-ltb (length c.args.pkt.now) 2 (omega arith), ← c.protocol_in.ensures) (search (rules, ne_eqb, c.send_protocol_reject.ensures))

@@ -4,4 +4,4 @@ use Rattle.phases.proofs.ppp.Ppp.send_protocol_reject.Goals as goal
 
 pub returns : goal.returns
 unfolding reject_of
-returns c = rw (c.take_lcp.ensures, c.send_protocol_reject.ensures, c.lcp_in.ensures) refl
+returns c = rw (c.take_lcp.ensures, c.send_protocol_reject.ensures, c.wrap.ensures) refl

@@ -1,7 +1,0 @@
-use Rattle.negotiation.proofs.Automata.{term_of}
-use Rattle.negotiation.proofs.option_fsm.OptionFsm.send_terminate_ack.Goals as goal
-
-pub returns : goal.returns
-returns c =
-    let a = c.args in
-    term_of a.self a.id c.none.ensures.0 c.terminate_ack_packet.ensures c.add.ensures

@@ -1,6 +1,0 @@
--- The rounds are counted.
-use Rattle.std.proofs.Common.{◌-◌}
-use Rattle.pace.proofs.rounds.both_rounds.Given as goal
-
-abbrev pub decreases-loop-i : goal.decreases-loop-i
-decreases-loop-i l = l.rounds - l.i

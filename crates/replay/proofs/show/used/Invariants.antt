@@ -1,9 +1,0 @@
--- The end moves forward, within the bytes.
-use Rattle.std.proofs.Common.{◌≤◌, length}
-use Rattle.replay.proofs.show.used.Given as goal
-
-abbrev pub invariant-loop-n : goal.invariant-loop-n
-invariant-loop-n l = l.n ≤ length l.s
-
-abbrev pub decreases-loop-n : goal.decreases-loop-n
-decreases-loop-n l = l.n

@@ -1,6 +1,0 @@
--- Each turn takes a character.
-use Rattle.std.proofs.Common.{◌-◌, length}
-use Rattle.replay.proofs.word.end_of.Given as goal
-
-abbrev pub decreases-loop-i : goal.decreases-loop-i
-decreases-loop-i l = length l.line - l.i

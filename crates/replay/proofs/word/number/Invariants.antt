@@ -1,6 +1,0 @@
--- Each turn takes a digit.
-use Rattle.std.proofs.Common.{◌-◌, length}
-use Rattle.replay.proofs.word.number.Given as goal
-
-abbrev pub decreases-loop-i : goal.decreases-loop-i
-decreases-loop-i l = length l.word - l.i
