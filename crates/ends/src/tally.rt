@@ -77,12 +77,12 @@ impl Tally {
 
     // An id that is smaller than before has passed 255: no meeting uses so many.
     fn take_end(&mut self, end: &End, hoped: Known) {
-        add(&mut self.opened, is_open(end.link) as usize);
-        add(&mut self.offered, (knows(end.link) == hoped) as usize);
+        add(&mut self.opened, usize::from(is_open(end.link)));
+        add(&mut self.offered, usize::from(knows(end.link) == hoped));
         add(&mut self.refused, end.refused);
         add(&mut self.stuck, end.stuck);
         for (now, before) in ids(end.link).iter().zip(end.ids.iter()) {
-            add(&mut self.rounds, (now < before) as usize);
+            add(&mut self.rounds, usize::from(now < before));
         }
     }
 
@@ -91,7 +91,7 @@ impl Tally {
         add(&mut self.meetings, 1);
         self.take_end(&pair.a, pair.to_a);
         self.take_end(&pair.b, pair.to_b);
-        let frames = &mut self.frames[!is_set(c, 16) as usize + !is_set(c, 32) as usize];
+        let frames = &mut self.frames[usize::from(!is_set(c, 16)) + usize::from(!is_set(c, 32))];
         frames.take(pair.a.frames());
         frames.take(pair.b.frames());
     }

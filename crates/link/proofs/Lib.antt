@@ -3,7 +3,6 @@ pub mod Hearing
 pub mod Leaving
 pub mod Numbers
 pub mod OneAnswer
-pub mod Passing
 pub mod Polling
 pub mod Reached
 pub mod Sending

@@ -122,15 +122,6 @@ got_is {r} {r'} {g} h =
     gots_differ g (got_of r) (h.number ∙ sym (got_number_lem (is_complete r.state) (ltb r.len 3) (r.len - 2)))
     (h.range ∙ sym (got_range_lem (is_complete r.state) r))
 
--- a packet ends before the check bytes
-pub got_packet : {r r' : FrameReader} {g : Got} {p : Span} → Receives r g r' → g ≡ Ok (Some p) → (3 ≤ r.len) × (p.end ≡ r.len - 2)
-got_packet {r} {r'} {g} {p} h e =
-    by_test (is_complete r.state && leb 3 r.len)
-    (λ t.
-    let k : p.start ∷ p.end ∷ [] ≡ 1 ∷ (r.len - 2) ∷ [] = sym (ap got_range e) ∙ h.range ∙ rw t refl in
-    (leb-true 3 r.len (both (is_complete r.state) (leb 3 r.len) t).1, cc))
-    (λ t. let k : p.start ∷ p.end ∷ [] ≡ [] = sym (ap got_range e) ∙ h.range ∙ rw t refl in apart (cc))
-
 -- a poll by what the fetch gave, with the reader that it left
 abbrev by_got : PPPoS → List ℕ → List ℕ → FrameReader → Got → Poll
 by_got l tx rx r (Ok (Some p)) = packet_poll l r p.end tx rx (take (p.end - 1) (drop 1 rx))

@@ -18,12 +18,6 @@ use Rattle.negotiation.specs.Messages.{next_id, request_bytes, reply_bytes, term
 use Rattle.negotiation.specs.Automaton.{ack_resends, after_ack, after_nack, is_opened, handled, refusal_of, with_state, stepped, requested, requested_in, ack_of, after_reply, req_with, after_nacked, nack_with, term_ack_of, ignore_of, echo_of, act_of, handle_of}
 use Rattle.negotiation.proofs.Joining.{add_replies}
 
--- an own request as the code builds it
-pub request_of : {g : OptionFsm Proto} {s : Replies} {q : Packet} (f : OptionFsm Proto) (r : Replies) → g ≡ stepped f
-    → q ≡ pkt_of (request_bytes g.proto g.id) → s ≡ added r q
-    → ◌≡◌ {A = Handled (OptionFsm Proto)} (sends_in g s) (requested_in f r)
-request_of f r eg eq es = rw (es, eq, eg) refl
-
 -- the record of replies holds the packets sent
 pub requested-behind : (f : OptionFsm Proto) (ps : List (List ℕ)) → length ps < max_replies → requested_in f (replies_of ps) ≡ handled (requested f ps)
 unfolding requested

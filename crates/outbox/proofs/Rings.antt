@@ -21,9 +21,6 @@ around_in n i h = rw (lt-ltb i n h)
 pub around_out : (n i : ℕ) → n ≤ i → around n i ≡ i - n
 around_out n i h = rw (le-ltb i n h)
 
-pub around_le : (n i : ℕ) → i ≤ n + n → around n i ≤ n
-around_le n i h = by_le n i (λ k. rw (around_out n i k) (omega arith)) (λ k. rw (around_in n i k) (omega arith))
-
 -- below the size, where there is one
 pub around_lt : (n i : ℕ) → i < n + n → around n i < n
 around_lt n i h = by_le n i (λ k. rw (around_out n i k) (omega arith)) (λ k. rw (around_in n i k) (omega arith))

@@ -52,7 +52,7 @@ impl Case {
                 self.rounds = 0;
             }
             // Not `parse`: what is no digit is passed over.
-            b'0'..=b'9' => self.rounds = self.rounds % 0x1000_0000 * 10 + (b - b'0') as usize,
+            b'0'..=b'9' => self.rounds = self.rounds % 0x1000_0000 * 10 + usize::from(b - b'0'),
             _ => {}
         }
     }

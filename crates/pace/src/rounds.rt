@@ -14,7 +14,9 @@ impl Sum {
     // A count, and the byte at an index.
     fn add(&mut self, count: usize, s: &[u8], at: usize) {
         self.counts = self.counts.wrapping_add(count as u64);
-        self.bytes = self.bytes.wrapping_add(s.get(at).map_or(0, |&b| b as u64));
+        self.bytes = self
+            .bytes
+            .wrapping_add(s.get(at).map_or(0, |&b| u64::from(b)));
     }
 }
 

@@ -12,7 +12,7 @@ impl Generator {
         ensures value { result ≡ after self.old.state }
         ensures state { self.new.state ≡ result }
     {
-        self.state = ((self.state as u64 * 1103515245 + 12345) % 0x8000_0000) as u32;
+        self.state = ((u64::from(self.state) * 1103515245 + 12345) % 0x8000_0000) as u32;
         self.state
     }
 }

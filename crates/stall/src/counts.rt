@@ -36,7 +36,7 @@ fn column(why: Refusal) -> usize
 }
 
 fn count(n: &mut usize, yes: bool) {
-    *n = n.saturating_add(yes as usize);
+    *n = n.saturating_add(usize::from(yes));
 }
 
 impl Counts {

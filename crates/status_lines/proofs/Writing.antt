@@ -111,27 +111,9 @@ lines_front s e p =
     let q = rw e at p in
     rw (q.ends, q.bytes, take_sets (lines_of s) (replicate 113 0) 0 (rw length-replicate (omega (arith, lines_short s))))
 
-pub lines_refused : (s : Status) (buf : List ℕ) → length buf < length (lines_of s) → Shows s buf (Err BufferFull) buf
-lines_refused s buf h =
-    let e = lt-leb (length (lines_of s)) (length buf) h in
-    record { number = rw e; count = rw e; bytes = rw e }
-
 pub lines_shown : {text buf buf' : List ℕ} {n : ℕ} (s : Status) → text ≡ lines_of s → length (lines_of s) ≤ length buf
     → Puts text buf 0 n buf' → Shows s buf (Ok n) buf'
 lines_shown {buf = buf} s f k p =
     let e = le-leb (length (lines_of s)) (length buf) k in
     let q = rw f at p in
     record { number = rw e; count = rw e (omega (arith, q.ends)); bytes = rw e (q.bytes ∙ sets_front (lines_of s) buf k) }
-
-pub shown_within : {s : Status} {buf buf' : List ℕ} {r : Result ℕ Refusal} → Shows s buf r buf' → count_of r ≤ length buf
-shown_within {s} {buf} p =
-    rw p.count
-    (cond_by (λ (m : ℕ). m ≤ length buf) (leb (length (lines_of s)) (length buf)) (leb-true (length (lines_of s)) (length buf)) (λ _. omega arith))
-
--- the front of that many bytes
-pub shown_front : {s : Status} {buf buf' : List ℕ} {r : Result ℕ Refusal} → Shows s buf r buf'
-    → take (count_of r) buf' ≡ cond (leb (length (lines_of s)) (length buf)) (lines_of s) []
-shown_front {s} {buf} p =
-    by_test (leb (length (lines_of s)) (length buf))
-    (λ e. rw (p.count, p.bytes, e) (take-append_seam (lines_of s) _))
-    (λ e. rw (p.count, p.bytes, e) refl)
