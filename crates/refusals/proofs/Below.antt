@@ -74,9 +74,9 @@ reject_first f pkt {h} e =
     (λ l. rw (e, lt-ltb _ _ l) (inl (refl, omega arith, ((refl, refl, count_of []), refl))))
 
 pub pap-first : (a : Auth) (pkt : List ℕ) {h : Handled Auth} → h ≡ auth_handled (auth_handle_of a pkt)
-    → First (outcome_number h.outcome) (record { told = outcome_values h.outcome; kept = h.left; echoed = false; count = h.replies.count }) (pap_rows a pkt)
+    → First (outcome_number h.outcome) (record { told = outcome_values h.outcome; kept = h.left; echoed = h.echoed; count = h.replies.count }) (pap_rows a pkt)
 pap-first a pkt {h} e = go (pap_by a pkt)
   where
-    go : PapBy a pkt → First (outcome_number h.outcome) (record { told = outcome_values h.outcome; kept = h.left; echoed = false; count = h.replies.count }) (pap_rows a pkt)
+    go : PapBy a pkt → First (outcome_number h.outcome) (record { told = outcome_values h.outcome; kept = h.left; echoed = h.echoed; count = h.replies.count }) (pap_rows a pkt)
     go (inl x) = rw (e, x.1) (inl (refl, x.0, ((refl, refl, count_of []), refl)))
     go (inr x) = inr (x.0, ap (λ (h : Handled Auth). outcome_number h.outcome) e ∙ ap outcome_number x.1)

@@ -38,7 +38,7 @@ pub record BelowHolds : Type 0 where
   pub reject : (f : OptionFsm Proto) (pkt : List ℕ) {h : Handled (OptionFsm Proto)} → h ≡ handled (protocol_reject_of f pkt)
       → Exactly ⊥ (reject_rows f pkt) (outcome_number h.outcome) (record { told = outcome_values h.outcome; kept = h.left; echoed = h.echoed; count = h.replies.count })
   pub pap : (a : Auth) (pkt : List ℕ) {h : Handled Auth} → h ≡ auth_handled (auth_handle_of a pkt)
-      → Exactly ⊥ (pap_rows a pkt) (outcome_number h.outcome) (record { told = outcome_values h.outcome; kept = h.left; echoed = false; count = h.replies.count })
+      → Exactly ⊥ (pap_rows a pkt) (outcome_number h.outcome) (record { told = outcome_values h.outcome; kept = h.left; echoed = h.echoed; count = h.replies.count })
 
 pub exactly_below : BelowHolds
 exactly_below =
