@@ -1,16 +1,16 @@
 // What stands from line to line, and the answer of each call.
 use crate::call::{Call, Side, parse};
-use crate::fault::Fault;
 use crate::pppos::Uplink;
 use crate::reader::Reader;
+use crate::show::Answer;
 use crate::waiting::Waiting;
+use crate::words::Bad;
 use crate::writer::Writer;
 use framing::crc::crc16;
-use std::alloc::{AllocError, Global};
+use std::fmt::{self, Write};
 
 #[derive(Drop)]
 pub(crate) struct Bench {
-    alloc: Global,
     uplink: Uplink,
     writer: Writer,
     reader: Reader,
@@ -18,58 +18,57 @@ pub(crate) struct Bench {
 }
 
 impl Bench {
-    pub(crate) fn new(alloc: Global) -> Result<Self, AllocError> {
-        Ok(Bench {
-            alloc,
-            uplink: Uplink::new(alloc)?,
-            writer: Writer::new(alloc),
-            reader: Reader::new(alloc),
-            waiting: Waiting::new(alloc)?,
-        })
+    pub(crate) fn new() -> Self {
+        Bench {
+            uplink: Uplink::new(),
+            writer: Writer::new(),
+            reader: Reader::new(),
+            waiting: Waiting::new(),
+        }
     }
 
-    fn reset(&mut self, out: &mut String) -> Result<(), AllocError> {
+    fn reset(&mut self, out: &mut Answer) -> fmt::Result {
         self.uplink.reset();
-        self.writer = Writer::new(self.alloc);
-        self.reader = Reader::new(self.alloc);
+        self.writer.reset();
+        self.reader.reset();
         self.waiting.reset();
-        out.push_str("reset ok")
+        out.write_str("reset ok")
     }
 
-    fn fill(&mut self, side: Side, byte: u8, out: &mut String) -> Result<(), AllocError> {
+    fn fill(&mut self, side: Side, byte: u8, out: &mut Answer) -> fmt::Result {
         match side {
             Side::Rx => self.uplink.rx.fill_with(byte),
             Side::Tx => self.uplink.tx.fill_with(byte),
         }
-        out.push_str("fill ok")
+        out.write_str("fill ok")
     }
 
-    fn answer(&mut self, call: Call, out: &mut String) -> Result<(), AllocError> {
+    fn answer(&mut self, call: Call, out: &mut Answer) -> fmt::Result {
         let tx_fill = self.uplink.tx.fill();
         let rx_fill = self.uplink.rx.fill();
         match call {
             Call::Reset => self.reset(out),
             Call::Fill(side, byte) => self.fill(side, byte, out),
-            Call::Crc(seed, bytes) => write!(out, "crc {:04x}", crc16(seed, &bytes)),
+            Call::Crc(seed, bytes) => write!(out, "crc {:04x}", crc16(seed, bytes)),
             Call::WriterNew(room, map) => self.writer.renew(room, map, tx_fill, out),
             Call::WriterStart => self.writer.start(tx_fill, out),
-            Call::WriterAppend(src) => self.writer.append(&src, tx_fill, out),
+            Call::WriterAppend(src) => self.writer.append(src, tx_fill, out),
             Call::WriterFinish => self.writer.finish(tx_fill, out),
             Call::ReaderNew(room, reading) => self.reader.renew(room, reading, rx_fill, out),
-            Call::ReaderConsume(src) => self.reader.consume(&src, rx_fill, out),
+            Call::ReaderConsume(src) => self.reader.consume(src, rx_fill, out),
             Call::ReaderReceive => self.reader.receive(out),
             Call::ReaderDrops => self.reader.drops(out),
-            Call::New(name, pass, reading) => self.uplink.renew(&name, &pass, reading, out),
+            Call::New(name, pass, reading) => self.uplink.renew(name, pass, reading, out),
             Call::Open => self.uplink.open(out),
-            Call::Consume(room, src) => self.uplink.consume(room, &src, out),
+            Call::Consume(room, src) => self.uplink.consume(room, src, out),
             Call::Poll(tx_room, rx_room) => self.uplink.poll(tx_room, rx_room, out),
-            Call::Send(room, pkt) => self.uplink.send(room, &pkt, out),
+            Call::Send(room, pkt) => self.uplink.send(room, pkt, out),
             Call::Part(from, to, room) => self.uplink.part(from, to, room, out),
             Call::Status => self.uplink.status(out),
             Call::Dump => self.uplink.dump(out),
             Call::Drops => self.uplink.drops(out),
             Call::OutboxNew(size) => self.waiting.renew(size, out),
-            Call::OutboxAccept(room, pkt) => self.waiting.accept(room, &pkt, out),
+            Call::OutboxAccept(room, pkt) => self.waiting.accept(room, pkt, out),
             Call::OutboxSend(room, tx_room) => {
                 self.waiting.send(&mut self.uplink, room, tx_room, out)
             }
@@ -78,13 +77,17 @@ impl Bench {
     }
 
     // The answer of a line with its line feed, or nothing where the line has no call.
-    pub(crate) fn answer_line(&mut self, line: &[u8], out: &mut String) -> Result<(), AllocError> {
-        match parse(self.alloc, line) {
+    pub(crate) fn answer_line(
+        &mut self,
+        line: &[u8],
+        scratch: &mut [u8],
+        out: &mut Answer,
+    ) -> fmt::Result {
+        match parse(line, scratch) {
             Ok(None) => return Ok(()),
             Ok(Some(call)) => self.answer(call, out)?,
-            Err(Fault::Bad) => out.push_str("bad")?,
-            Err(Fault::OutOfMemory) => return Err(AllocError),
+            Err(Bad) => out.write_str("bad")?,
         }
-        out.push('\n')
+        out.write_char('\n')
     }
 }

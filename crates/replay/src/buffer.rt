@@ -1,17 +1,21 @@
 // A buffer that is lent in part, and keeps its bytes from call to call.
 use crate::show::Filled;
-use std::alloc::{AllocError, Global};
+
+// How long each buffer is but the outbox's.
+pub(crate) const ROOM: usize = 4096;
 
 #[derive(Drop)]
-pub(crate) struct Buffer {
-    bytes: Vec<u8>,
+pub(crate) struct Buffer<const N: usize> {
+    bytes: [u8; N],
     fill: u8,
 }
 
-impl Buffer {
-    pub(crate) fn new(alloc: Global, len: usize, fill: u8) -> Result<Self, AllocError> {
-        let bytes = vec![in alloc; fill; len]?;
-        Ok(Buffer { bytes, fill })
+impl<const N: usize> Buffer<N> {
+    pub(crate) fn new(fill: u8) -> Self {
+        Buffer {
+            bytes: [fill; N],
+            fill,
+        }
     }
 
     pub(crate) fn fill(&self) -> u8 {
@@ -20,17 +24,16 @@ impl Buffer {
 
     pub(crate) fn fill_with(&mut self, fill: u8) {
         self.fill = fill;
-        self.bytes.as_mut_slice().fill(fill);
+        self.bytes.fill(fill);
     }
 
     // The first `n` bytes, or all where there are fewer.
     pub(crate) fn front(&self, n: usize) -> &[u8] {
-        &self.bytes[..n.min(self.bytes.len())]
+        &self.bytes[..n.min(N)]
     }
 
     pub(crate) fn lend(&mut self, n: usize) -> &mut [u8] {
-        let n = n.min(self.bytes.len());
-        &mut self.bytes[..n]
+        &mut self.bytes[..n.min(N)]
     }
 
     pub(crate) fn shown(&self, n: usize) -> Filled<'_> {

@@ -1,9 +1,10 @@
 // What a line asks for.
-use crate::fault::Fault;
 use crate::line::MAX_LINE;
-use crate::words::Words;
+use crate::words::{Bad, Words};
 use framing::frame_reader::Reading;
-use std::alloc::Global;
+
+// As many bytes may the words of a line spell.
+pub(crate) const MAX_BYTES: usize = MAX_LINE / 2;
 
 // The buffer for receiving or the one for sending.
 #[derive(Clone, Copy, PartialEq, Eq)]
@@ -13,76 +14,85 @@ pub(crate) enum Side {
 }
 
 // The calls, with the values of their words in the order of the line.
-#[derive(Drop)]
-pub(crate) enum Call {
+#[derive(Clone, Copy)]
+pub(crate) enum Call<'a> {
     Reset,
     Fill(Side, u8),
-    Crc(u16, Vec<u8>),
+    Crc(u16, &'a [u8]),
     WriterNew(usize, u32),
     WriterStart,
-    WriterAppend(Vec<u8>),
+    WriterAppend(&'a [u8]),
     WriterFinish,
     ReaderNew(usize, Reading),
-    ReaderConsume(Vec<u8>),
+    ReaderConsume(&'a [u8]),
     ReaderReceive,
     ReaderDrops,
-    New(Vec<u8>, Vec<u8>, Reading),
+    New(&'a [u8], &'a [u8], Reading),
     Open,
-    Consume(usize, Vec<u8>),
+    Consume(usize, &'a [u8]),
     Poll(usize, usize),
-    Send(usize, Vec<u8>),
+    Send(usize, &'a [u8]),
     Part(usize, usize, usize),
     Status,
     Dump,
     Drops,
     OutboxNew(usize),
-    OutboxAccept(usize, Vec<u8>),
+    OutboxAccept(usize, &'a [u8]),
     OutboxSend(usize, usize),
     OutboxBuffer(usize),
 }
 
-fn named_side(words: &mut Words) -> Result<Side, Fault> {
+fn named_side(words: &mut Words) -> Result<Side, Bad> {
     match words.next() {
         Some(b"rx") => Ok(Side::Rx),
         Some(b"tx") => Ok(Side::Tx),
-        _ => Err(Fault::Bad),
+        _ => Err(Bad),
     }
 }
 
-fn named_call(alloc: Global, name: &[u8], words: &mut Words) -> Result<Call, Fault> {
+// Bytes of the call lie in `scratch`.
+fn named_call<'a>(
+    name: &[u8],
+    words: &mut Words<'_>,
+    scratch: &'a mut [u8],
+) -> Result<Call<'a>, Bad> {
     Ok(match name {
         b"reset" => Call::Reset,
         b"fill" => Call::Fill(named_side(words)?, words.byte()?),
-        b"crc" => Call::Crc(words.seed()?, words.bytes(alloc)?),
+        b"crc" => Call::Crc(words.seed()?, words.bytes(scratch)?.0),
         b"wnew" => Call::WriterNew(words.room()?, words.map()?),
         b"wstart" => Call::WriterStart,
-        b"wappend" => Call::WriterAppend(words.bytes(alloc)?),
+        b"wappend" => Call::WriterAppend(words.bytes(scratch)?.0),
         b"wfinish" => Call::WriterFinish,
         b"rnew" => Call::ReaderNew(words.room()?, words.reading()?),
-        b"rconsume" => Call::ReaderConsume(words.bytes(alloc)?),
+        b"rconsume" => Call::ReaderConsume(words.bytes(scratch)?.0),
         b"rreceive" => Call::ReaderReceive,
         b"rdrops" => Call::ReaderDrops,
-        b"new" => Call::New(words.bytes(alloc)?, words.bytes(alloc)?, words.reading()?),
+        b"new" => {
+            let (name, rest) = words.bytes(scratch)?;
+            let (pass, _) = words.bytes(rest)?;
+            Call::New(name, pass, words.reading()?)
+        }
         b"open" => Call::Open,
-        b"consume" => Call::Consume(words.room()?, words.bytes(alloc)?),
+        b"consume" => Call::Consume(words.room()?, words.bytes(scratch)?.0),
         b"poll" => Call::Poll(words.room()?, words.room()?),
-        b"send" => Call::Send(words.room()?, words.bytes(alloc)?),
+        b"send" => Call::Send(words.room()?, words.bytes(scratch)?.0),
         b"part" => Call::Part(words.room()?, words.room()?, words.room()?),
         b"status" => Call::Status,
         b"dump" => Call::Dump,
         b"drops" => Call::Drops,
         b"obnew" => Call::OutboxNew(words.wide_room()?),
-        b"obaccept" => Call::OutboxAccept(words.wide_room()?, words.bytes(alloc)?),
+        b"obaccept" => Call::OutboxAccept(words.wide_room()?, words.bytes(scratch)?.0),
         b"obsend" => Call::OutboxSend(words.wide_room()?, words.room()?),
         b"obbuf" => Call::OutboxBuffer(words.wide_room()?),
-        _ => return Err(Fault::Bad),
+        _ => return Err(Bad),
     })
 }
 
-// The call of a line; an empty line and a comment have none.
-pub(crate) fn parse(alloc: Global, line: &[u8]) -> Result<Option<Call>, Fault> {
+// The call of a line, with its bytes in `scratch`; an empty line and a comment have none.
+pub(crate) fn parse<'a>(line: &[u8], scratch: &'a mut [u8]) -> Result<Option<Call<'a>>, Bad> {
     if line.len() > MAX_LINE {
-        return Err(Fault::Bad);
+        return Err(Bad);
     }
     let mut words = Words(line);
     let Some(name) = words.next() else {
@@ -91,7 +101,7 @@ pub(crate) fn parse(alloc: Global, line: &[u8]) -> Result<Option<Call>, Fault> {
     if name.first() == Some(&b'#') {
         return Ok(None);
     }
-    let call = named_call(alloc, name, &mut words)?;
+    let call = named_call(name, &mut words, scratch)?;
     words.end()?;
     Ok(Some(call))
 }

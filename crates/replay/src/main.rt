@@ -5,7 +5,6 @@ mod bench;
 mod buffer;
 mod call;
 mod dump;
-mod fault;
 mod line;
 mod pppos;
 mod reader;
@@ -15,27 +14,29 @@ mod words;
 mod writer;
 
 use crate::bench::Bench;
-use crate::line::next_line;
-use std::alloc::Global;
-use std::io::{self, BufRead, BufReader};
+use crate::call::MAX_BYTES;
+use crate::line::Lines;
+use crate::show::Answer;
+use std::io::{self, Read};
 
 // A proved loop has to end, and nothing says that the input does: no run uses so many turns up.
-fn serve<R: BufRead>(rt: &impl Print, alloc: Global, input: &mut R) -> io::Result<()> {
-    let mut bench = Bench::new(alloc)?;
-    let mut line = Vec::new(alloc);
-    let mut out = String::new(alloc);
+fn serve<R: Read>(rt: &impl Print, input: &mut R) -> io::Result<()> {
+    let mut bench = Bench::new();
+    let mut lines = Lines::new();
+    let mut scratch = [0u8; MAX_BYTES];
+    let mut out = Answer::new();
     for _ in 0..u64::MAX {
-        if !next_line(input, &mut line)? {
+        if !lines.advance(input)? {
             return Ok(());
         }
         out.clear();
-        bench.answer_line(&line, &mut out)?;
+        // No answer is as long as the room for one.
+        let _ = bench.answer_line(lines.line(), &mut scratch, &mut out);
         rt.write_all(out.as_bytes())?;
     }
     Ok(())
 }
 
 fn main(rt: HostRuntime) -> io::Result<()> {
-    let alloc = rt.alloc();
-    serve(&rt, alloc, &mut BufReader::new(alloc, rt.stdin())?)
+    serve(&rt, &mut rt.stdin())
 }

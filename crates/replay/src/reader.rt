@@ -1,16 +1,17 @@
 // The reader's calls.
-use crate::show::Filled;
+use crate::buffer::{Buffer, ROOM};
+use crate::show::{Answer, Filled};
 use framing::drops::Drops;
 use framing::frame_reader::{FrameReader, Reading, Span, State};
 use framing::refusal::Refusal;
-use std::alloc::{AllocError, Global};
-use std::fmt;
+use std::fmt::{self, Write};
 
-// A reader, the buffer that it is lent, and what its last consume dropped.
+// A reader, the buffer of which it is lent as much as it was made with, and what its last consume dropped.
 #[derive(Drop)]
 pub(crate) struct Reader {
     reader: FrameReader,
-    buf: Vec<u8>,
+    room: usize,
+    buf: Buffer<ROOM>,
     drops: Drops,
 }
 
@@ -74,7 +75,7 @@ impl fmt::Display for Taken {
     }
 }
 
-fn show_got(got: Result<Option<Span>, Refusal>, out: &mut String) -> Result<(), AllocError> {
+fn show_got(got: Result<Option<Span>, Refusal>, out: &mut Answer) -> fmt::Result {
     match got {
         Ok(Some(packet)) => write!(out, "{}..{}", packet.start, packet.end),
         Ok(None) => write!(out, "none"),
@@ -84,12 +85,19 @@ fn show_got(got: Result<Option<Span>, Refusal>, out: &mut String) -> Result<(), 
 
 impl Reader {
     // A reader without room.
-    pub(crate) fn new(alloc: Global) -> Self {
+    pub(crate) fn new() -> Self {
         Reader {
             reader: FrameReader::new(Reading::Crate),
-            buf: Vec::new(alloc),
+            room: 0,
+            buf: Buffer::new(0),
             drops: Drops::none(),
         }
+    }
+
+    pub(crate) fn reset(&mut self) {
+        self.reader = FrameReader::new(Reading::Crate);
+        self.room = 0;
+        self.drops = Drops::none();
     }
 
     pub(crate) fn renew(
@@ -97,26 +105,21 @@ impl Reader {
         room: usize,
         reading: Reading,
         fill: u8,
-        out: &mut String,
-    ) -> Result<(), AllocError> {
+        out: &mut Answer,
+    ) -> fmt::Result {
         self.reader = FrameReader::new(reading);
         self.drops = Drops::none();
-        self.buf.clear();
-        self.buf.resize(room, fill)?;
-        out.push_str("rnew ok")
+        self.room = room;
+        self.buf.fill_with(fill);
+        out.write_str("rnew ok")
     }
 
-    pub(crate) fn consume(
-        &mut self,
-        src: &[u8],
-        fill: u8,
-        out: &mut String,
-    ) -> Result<(), AllocError> {
-        let consumed = self.reader.consume(self.buf.as_mut_slice(), src);
+    pub(crate) fn consume(&mut self, src: &[u8], fill: u8, out: &mut Answer) -> fmt::Result {
+        let consumed = self.reader.consume(self.buf.lend(self.room), src);
         self.reader = consumed.reader;
         self.drops = consumed.drops;
         let taken = Taken(consumed.taken.map_err(u8::from));
-        let bytes = self.buf.as_slice();
+        let bytes = self.buf.front(self.room);
         write!(
             out,
             "rconsume {taken} {} rx={}",
@@ -125,15 +128,15 @@ impl Reader {
         )
     }
 
-    pub(crate) fn receive(&mut self, out: &mut String) -> Result<(), AllocError> {
+    pub(crate) fn receive(&mut self, out: &mut Answer) -> fmt::Result {
         let received = self.reader.receive();
         self.reader = received.reader;
-        out.push_str("rreceive ")?;
+        out.write_str("rreceive ")?;
         show_got(received.got, out)?;
         write!(out, " {}", Kept(self.reader))
     }
 
-    pub(crate) fn drops(&self, out: &mut String) -> Result<(), AllocError> {
+    pub(crate) fn drops(&self, out: &mut Answer) -> fmt::Result {
         write!(out, "rdrops {}", Counts(self.drops))
     }
 }

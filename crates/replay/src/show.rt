@@ -1,5 +1,14 @@
 // How values are shown in an answer.
+use crate::waiting::WIDE_ROOM;
+use arrayvec::ArrayString;
 use std::fmt::{self, Write};
+use std::str;
+
+// The outbox's whole buffer in digits, and the words beside it: no answer is longer.
+const LONGEST: usize = 2 * WIDE_ROOM + 100;
+
+// An answer as it is made.
+pub(crate) type Answer = ArrayString<LONGEST>;
 
 // A call that has no count; of a type of its own beside Counted and Taken, since each is another text.
 #[derive(Clone, Copy)]
@@ -9,9 +18,10 @@ pub(crate) struct Verdict(pub(crate) Result<(), u8>);
 #[derive(Clone, Copy)]
 pub(crate) struct Counted(pub(crate) Result<usize, u8>);
 
-fn digit(half: u8) -> char {
-    char::from(b"0123456789abcdef"[usize::from(half % 16)])
-}
+const DIGITS: &[u8; 16] = b"0123456789abcdef";
+
+// So many bytes are shown at a time.
+const RUN: usize = 64;
 
 // Bytes in hex, or `-` for none.
 #[derive(Clone, Copy)]
@@ -47,10 +57,15 @@ impl<'a> fmt::Display for Hex<'a> {
         if self.0.is_empty() {
             return f.write_str("-");
         }
-        // With `{byte:02x}` a run of long answers takes 1.6 times as long, above the bar of 1.3.
-        for byte in self.0 {
-            f.write_char(digit(byte / 16))?;
-            f.write_char(digit(byte % 16))?;
+        // A run of digits at a time: one by one an answer takes four times as long.
+        for part in self.0.chunks(RUN) {
+            let mut digits = [0u8; 2 * RUN];
+            for (pair, byte) in digits.chunks_exact_mut(2).zip(part) {
+                pair[0] = DIGITS[usize::from(byte / 16)];
+                pair[1] = DIGITS[usize::from(byte % 16)];
+            }
+            let run = &digits[..2 * part.len().min(RUN)];
+            f.write_str(str::from_utf8(run).unwrap_or(""))?;
         }
         Ok(())
     }
@@ -58,10 +73,8 @@ impl<'a> fmt::Display for Hex<'a> {
 
 impl<'a> fmt::Display for Filled<'a> {
     fn fmt<W: Write>(&self, f: &mut fmt::Formatter<W>) -> fmt::Result {
-        let kept = match self.bytes.iter().rposition(|b| *b != self.fill) {
-            Some(last) => &self.bytes[..last + 1],
-            None => &self.bytes[..0],
-        };
+        let last = self.bytes.iter().rposition(|b| *b != self.fill);
+        let kept = &self.bytes[..last.map_or(0, |last| last + 1)];
         let left_out = self.bytes.len() - kept.len();
         write!(f, "{}+{left_out}", Hex(kept))
     }

@@ -1,26 +1,27 @@
 // The outbox's calls.
 use crate::buffer::Buffer;
 use crate::pppos::Uplink;
-use crate::show::{Counted, Verdict};
+use crate::show::{Answer, Counted, Verdict};
 use outbox::outbox::Outbox;
-use std::alloc::{AllocError, Global};
+use std::fmt::{self, Write};
 
-const ROOM: usize = 70000;
+// How long the outbox's buffer is.
+pub(crate) const WIDE_ROOM: usize = 70000;
 
 // An outbox, and the buffer of which it is lent as much as a call says.
 #[derive(Drop)]
 pub(crate) struct Waiting {
     outbox: Outbox,
-    buf: Buffer,
+    buf: Buffer<WIDE_ROOM>,
 }
 
 impl Waiting {
     // Before the first `obnew` there is no room.
-    pub(crate) fn new(alloc: Global) -> Result<Self, AllocError> {
-        Ok(Waiting {
+    pub(crate) fn new() -> Self {
+        Waiting {
             outbox: Outbox::new(b""),
-            buf: Buffer::new(alloc, ROOM, 0)?,
-        })
+            buf: Buffer::new(0),
+        }
     }
 
     pub(crate) fn reset(&mut self) {
@@ -28,7 +29,7 @@ impl Waiting {
         self.outbox = Outbox::new(b"");
     }
 
-    pub(crate) fn renew(&mut self, size: usize, out: &mut String) -> Result<(), AllocError> {
+    pub(crate) fn renew(&mut self, size: usize, out: &mut Answer) -> fmt::Result {
         self.buf.fill_with(0);
         self.outbox = Outbox::new(self.buf.front(size));
         write!(out, "obnew ok size={}", self.outbox.size())?;
@@ -36,7 +37,7 @@ impl Waiting {
     }
 
     // What is held, and how much more may be.
-    fn left(&self, out: &mut String) -> Result<(), AllocError> {
+    fn left(&self, out: &mut Answer) -> fmt::Result {
         write!(
             out,
             " held={} free={}",
@@ -45,12 +46,7 @@ impl Waiting {
         )
     }
 
-    pub(crate) fn accept(
-        &mut self,
-        room: usize,
-        pkt: &[u8],
-        out: &mut String,
-    ) -> Result<(), AllocError> {
+    pub(crate) fn accept(&mut self, room: usize, pkt: &[u8], out: &mut Answer) -> fmt::Result {
         let accepted = self.outbox.accept(pkt, self.buf.lend(room));
         self.outbox = accepted.outbox;
         let said = Verdict(accepted.outcome.map_err(u8::from));
@@ -63,8 +59,8 @@ impl Waiting {
         uplink: &mut Uplink,
         room: usize,
         tx_room: usize,
-        out: &mut String,
-    ) -> Result<(), AllocError> {
+        out: &mut Answer,
+    ) -> fmt::Result {
         let sent = self
             .outbox
             .send(uplink.link, self.buf.front(room), uplink.tx.lend(tx_room));
@@ -75,7 +71,7 @@ impl Waiting {
         write!(out, " tx={}", uplink.tx.shown(tx_room))
     }
 
-    pub(crate) fn buffer(&self, room: usize, out: &mut String) -> Result<(), AllocError> {
+    pub(crate) fn buffer(&self, room: usize, out: &mut Answer) -> fmt::Result {
         write!(out, "obbuf {}", self.buf.shown(room))
     }
 }
