@@ -110,7 +110,7 @@ impl Reader {
         self.reader = FrameReader::new(reading);
         self.drops = Drops::none();
         self.room = room;
-        self.buf.fill_with(fill);
+        self.buf.lend(room).fill(fill);
         out.write_str("rnew ok")
     }
 

@@ -36,7 +36,7 @@ impl Writer {
     ) -> fmt::Result {
         self.writer = FrameWriter::new_with_asyncmap(map);
         self.room = room;
-        self.buf.fill_with(fill);
+        self.buf.lend(room).fill(fill);
         out.write_str("wnew ok")
     }
 
