@@ -57,7 +57,7 @@ fn append_one(buf: &mut [u8], at: usize, a: u8) -> Result<usize, Full>
 fn append_two(buf: &mut [u8], at: usize, a: u8, b: u8) -> Result<usize, Full>
     ensures { Ran ((a ∷ b ∷ []) ∷ []) buf.old at buf.new (reached result) (is_ok result) }
 {
-    if buf.len().saturating_sub(at) < 2 {
+    if buf.len() < 2 || buf.len() - 2 < at {
         return Err(Full { at });
     }
     buf[at] = a;
