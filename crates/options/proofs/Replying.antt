@@ -3,9 +3,6 @@
 use Prim.Native.Nat.{ℕ, ◌+◌, ◌-◌, ◌≤◌, ◌<◌}
 use mathlib.Core.Path.{◌≡◌, refl, sym, ◌∙◌}
 use mathlib.Core.Bool.{Bool, true, false}
-use Rattle.std.specs.Ordering.{partial_lt}
-use Rattle.options.specs.contracts.proto.VerdictPartialOrd.TheImpl.{partial_cmp-value}
-use Rattle.options.specs.declared.proto.Verdict.TheVariants.{Ack, Nack, Rej}
 use lib.Dec.{ltb}
 use mathlib.Core.List.{List, ◌++◌}
 use borrow.Author.Tests.{ltb-true, ltb-false, lt-ltb, le-ltb, le-leb, lt-leb}
@@ -28,25 +25,13 @@ use Rattle.options.specs.Proto.{suggestion_of, judge_of}
 use Rattle.options.specs.Reply.{rank_of, refused_by, with_proto, listing, listed_of, step_of, reply_of, Ready}
 use Rattle.options.proofs.Walks.{walk_last, last_done, last_cut, last_opt}
 
--- the order of verdicts is that of their ranks
-outranked : (v w : Verdict) → partial_lt partial_cmp-value.it v w ≡ ltb (rank_of v) (rank_of w)
-outranked Ack Ack = refl
-outranked Ack Nack = refl
-outranked Ack Rej = refl
-outranked Nack Ack = refl
-outranked Nack Nack = refl
-outranked Nack Rej = refl
-outranked Rej Ack = refl
-outranked Rej Nack = refl
-outranked Rej Rej = refl
+pub is_lower : {t : Bool} (v w : Verdict) → t ≡ ltb (rank_of v) (rank_of w) → t ≡ true → rank_of v < rank_of w
+is_lower v w e h = ltb-true (rank_of v) (rank_of w) (sym e ∙ h)
 
-pub is_lower : {t : Bool} (v w : Verdict) → t ≡ partial_lt partial_cmp-value.it v w → t ≡ true → rank_of v < rank_of w
-is_lower v w e h = ltb-true (rank_of v) (rank_of w) (sym (e ∙ outranked v w) ∙ h)
+pub not_lower : {t : Bool} (v w : Verdict) → t ≡ ltb (rank_of v) (rank_of w) → t ≡ false → rank_of w ≤ rank_of v
+not_lower v w e h = ltb-false (rank_of v) (rank_of w) (sym e ∙ h)
 
-pub not_lower : {t : Bool} (v w : Verdict) → t ≡ partial_lt partial_cmp-value.it v w → t ≡ false → rank_of w ≤ rank_of v
-not_lower v w e h = ltb-false (rank_of v) (rank_of w) (sym (e ∙ outranked v w) ∙ h)
-
-pub same_rank : {t u : Bool} (v w : Verdict) → t ≡ partial_lt partial_cmp-value.it v w → t ≡ false → u ≡ partial_lt partial_cmp-value.it w v → u ≡ false
+pub same_rank : {t u : Bool} (v w : Verdict) → t ≡ ltb (rank_of v) (rank_of w) → t ≡ false → u ≡ ltb (rank_of w) (rank_of v) → u ≡ false
     → rank_of w ≡ rank_of v
 same_rank v w e h f k = let l = not_lower v w e h in let m = not_lower w v f k in omega arith
 

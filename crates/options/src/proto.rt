@@ -1,7 +1,8 @@
 // The two protocols that negotiate options, as an enum; what each does with an option is in lcp.rt and ipv4cp.rt.
-ghost use Rattle.std.specs.Prelude.{◌≡◌, ◌≤◌};
+ghost use Rattle.std.specs.Prelude.{◌≡◌, ◌≤◌, ltb};
 ghost use Rattle.options.specs.Wire.{pkt_of, Tidy};
 ghost use Rattle.options.specs.Options.{max_own, walk_of};
+ghost use Rattle.options.specs.Reply.{rank_of};
 ghost use Rattle.options.specs.Proto.{protocol_of, start_of, suggestion_of, judge_of, own_of, own_nacked, nacks_of};
 
 use crate::ipv4cp::Ipv4cp;
@@ -22,6 +23,14 @@ pub enum Verdict {
     Ack,
     Nack,
     Rej,
+}
+
+impl Verdict {
+    pub(crate) fn outranks(self, other: Self) -> bool
+        ensures { result ≡ ltb (rank_of other) (rank_of self) }
+    {
+        other < self
+    }
 }
 
 // The verdict on an option, and what the option leaves of the protocol.

@@ -85,7 +85,7 @@ impl Reply {
         requires { Ready self }
         ensures { (result ≡ listed_of self j.proto j.verdict code d.now) × Ready result }
     {
-        if j.verdict < self.verdict {
+        if self.verdict.outranks(j.verdict) {
             return Reply {
                 proto: j.proto,
                 ..self
@@ -94,7 +94,7 @@ impl Reply {
         if MAX_OPTION_LEN < d.len() {
             return self.refused(Refusal::OptionLong);
         }
-        if self.verdict < j.verdict {
+        if j.verdict.outranks(self.verdict) {
             return Reply {
                 outcome: Ok(()),
                 verdict: j.verdict,
