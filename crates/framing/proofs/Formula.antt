@@ -1,10 +1,11 @@
--- The crate's formula for one byte is eight steps of the register.
+-- The crate's formula for one byte is eight steps of the register, and so is the same multiplied out, as the writer has it.
 -- Assumes nothing.
 use mathlib.Core.Path.{◌≡◌, sym, ap, ◌∙◌}
 use mathlib.Core.Bool.{Bool}
-use Prim.Native.Nat.{ℕ, ◌/◌, ◌%◌, ◌^◌, ◌<◌}
+use Prim.Native.Nat.{ℕ, ◌*◌, ◌/◌, ◌%◌, ◌^◌, ◌<◌}
+use native.Mathlib.Omega.{arith}
 use lib.Dec.{eqb, eqb→eq}
-use lib.Bits.{bit_xor, xor_zero_l}
+use lib.Bits.{bit_xor, xor_zero_l, xor_zero_r, xor_mod, xor_shr}
 use Rattle.laws.proofs.Xor.{xor_assoc}
 use Rattle.laws.proofs.Below.{below}
 use Rattle.framing.specs.Rfc1662.{fcs_bits, fcs_byte}
@@ -31,3 +32,33 @@ entry e h = eqb→eq (by_formula 0 e) (fcs_byte e 0) (below right 256 tt e h)
 pub formula : (s b : ℕ) → b < 256 → by_formula s b ≡ fcs_byte s b
 formula s b h =
     formula_high s b ∙ ap (bit_xor (s / 2 ^ 8)) (entry (bit_xor (s % 256) b) (fcs_index_lt s b h)) ∙ sym (fcs_byte_lem s b h)
+
+-- the same multiplied out, of the seed's high byte h and the index e: what mixing the index with itself adds is one product
+abbrev multiplied : ℕ → ℕ → ℕ
+multiplied h e = bit_xor (bit_xor (bit_xor (bit_xor h (e * 256)) (e / 16)) (e * 8)) (e % 16 * 0x1081)
+
+right_multiplied : ℕ → Bool
+right_multiplied e = eqb (multiplied 0 e) (fcs_byte e 0)
+
+entry_multiplied : (e : ℕ) → e < 256 → multiplied 0 e ≡ fcs_byte e 0
+unfolding right_multiplied fcs_bits
+entry_multiplied e h = eqb→eq (multiplied 0 e) (fcs_byte e 0) (below right_multiplied 256 tt e h)
+
+multiplied_high : (h e : ℕ) → multiplied h e ≡ bit_xor h (multiplied 0 e)
+multiplied_high h e =
+    let p = e % 16 * 0x1081 in
+    ap (λ (x : ℕ). bit_xor x p) (first_out h (e * 256) (e / 16) (e * 8))
+    ∙ xor_assoc h _ p
+    ∙ ap (λ (x : ℕ). bit_xor h (bit_xor (bit_xor (bit_xor x (e / 16)) (e * 8)) p)) (sym (xor_zero_l (e * 256)))
+
+-- as the code has it, of the seed with the byte in it: no shift of the index loses a bit in 16 of them
+pub formula_multiplied : (s b t : ℕ) → b < 256 → t ≡ bit_xor s b
+    → bit_xor (bit_xor (bit_xor (bit_xor (t / 256) (t * 256 % 65536)) (t % 256 / 16)) (t % 256 * 8 % 65536)) (t % 16 * 0x1081) ≡ fcs_byte s b
+formula_multiplied s b t h e =
+    let i = bit_xor (s % 256) b in
+    let low : t % 256 ≡ i = ap (λ (x : ℕ). x % 256) e ∙ xor_mod s b 8 ∙ ap (bit_xor (s % 256)) (omega arith) in
+    let high : t / 256 ≡ s / 256 = ap (λ (x : ℕ). x / 256) e ∙ xor_shr s b 8 ∙ ap (bit_xor (s / 256)) (omega arith) ∙ xor_zero_r (s / 256) in
+    let up : t * 256 % 65536 ≡ i * 256 = omega arith in
+    let three : t % 256 * 8 % 65536 ≡ i * 8 = omega arith in
+    let half : t % 16 ≡ i % 16 = omega arith in
+    rw (up, three, half, low, high) (multiplied_high (s / 256) i ∙ ap (bit_xor (s / 256)) (entry_multiplied i (fcs_index_lt s b h)) ∙ sym (fcs_byte_lem s b h))

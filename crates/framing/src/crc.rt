@@ -31,13 +31,22 @@ pub fn crc16(seed: u16, src: &[u8]) -> u16
     s as u16
 }
 
-// One byte, by the formula.
-pub(crate) fn step(seed: u16, b: u8) -> u16
+// One byte, by the crate's formula.
+fn step_by_formula(seed: u16, b: u8) -> u16
     ensures { result ≡ fcs_byte seed b }
 {
     let e = ((seed % 256) as u8) ^ b;
     let f = u16::from(e ^ (e << 4));
     (seed >> 8) ^ (f << 8) ^ (f << 3) ^ (f >> 4)
+}
+
+// The same multiplied out: what mixing the index with itself adds is one product, so that a byte waits less for the one before it.
+pub(crate) fn step(seed: u16, b: u8) -> u16
+    ensures { result ≡ fcs_byte seed b }
+{
+    let t = seed ^ u16::from(b);
+    let e = t % 256;
+    (t >> 8) ^ (t << 8) ^ (e >> 4) ^ (e << 3) ^ (t % 16 * 0x1081)
 }
 
 // A loop of its own beside the table's: document 02, 6/12 wants both, and one over a closure would be no shorter.
@@ -46,7 +55,7 @@ pub fn crc16_by_formula(seed: u16, src: &[u8]) -> u16
 {
     let mut s = seed;
     for &b in src {
-        s = step(s, b);
+        s = step_by_formula(s, b);
     }
     s
 }
