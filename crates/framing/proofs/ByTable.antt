@@ -6,19 +6,13 @@ use Prim.Native.Nat.{ℕ, ◌/◌, ◌%◌, ◌^◌, ◌<◌}
 use native.Mathlib.Omega.{arith}
 use lib.Dec.{eqb, eqb→eq}
 use lib.ListN.{get_or, length}
-use lib.Bits.{bit_xor, xor_mod}
+use lib.Bits.{bit_xor}
 use Rattle.laws.specs.Each.{Bytes}
 use Rattle.laws.proofs.Below.{each_entry}
 use Rattle.framing.specs.Rfc1662.{fcs, fcs_byte}
 use Rattle.framing.specs.Table.{by_formula, by_table, register, Table, BothWays}
-use Rattle.framing.proofs.Fcs.{fcs_index_lt}
+use Rattle.framing.proofs.Fcs.{fcs_index, fcs_index_lt}
 use Rattle.framing.proofs.Formula.{formula, formula_high}
-
--- the paper's index is the formula's
-index : (s b : ℕ) → b < 2 ^ 8 → bit_xor s b % 2 ^ 8 ≡ bit_xor (s % 2 ^ 8) b
-index s b h =
-    let all : b % 2 ^ 8 ≡ b = omega (arith, h) in
-    xor_mod s b 8 ∙ ap (bit_xor (s % 2 ^ 8)) all
 
 -- two ways that agree at each byte agree over every run
 alike : (f g : ℕ → ℕ → ℕ) → ((s b : ℕ) → b < 256 → f s b ≡ g s b) → (s : ℕ) (bs : List ℕ) → Bytes bs → register f s bs ≡ register g s bs
@@ -45,7 +39,7 @@ module _ (t : List ℕ) (whole : Table t) where
 
   byte : (s b : ℕ) → b < 256 → by_table t s b ≡ by_formula s b
   byte s b h =
-      ap (bit_xor (s / 256)) (ap (λ (x : ℕ). get_or t x 0) (index s b h) ∙ entry (bit_xor (s % 2 ^ 8) b) (fcs_index_lt s b h))
+      ap (bit_xor (s / 256)) (ap (λ (x : ℕ). get_or t x 0) (fcs_index s b h) ∙ entry (bit_xor (s % 2 ^ 8) b) (fcs_index_lt s b h))
       ∙ sym (formula_high s b)
 
   pub table_step : (s b : ℕ) → b < 256 → by_table t s b ≡ fcs_byte s b

@@ -78,6 +78,12 @@ fcs_byte_lem s b hb = ap (λ (x : ℕ). fcs_byte x b) (sym (xor_split s 8)) ∙ 
 pub fcs_index_lt : (s b : ℕ) → b < 2 ^ 8 → bit_xor (s % 2 ^ 8) b < 2 ^ 8
 fcs_index_lt s b h = xor_lt 8 (s % 2 ^ 8) b (omega arith) h
 
+-- the paper's, of the register with the byte in it, is the same
+pub fcs_index : (s b : ℕ) → b < 2 ^ 8 → bit_xor s b % 2 ^ 8 ≡ bit_xor (s % 2 ^ 8) b
+fcs_index s b h =
+    let all : b % 2 ^ 8 ≡ b = omega (arith, h) in
+    xor_mod s b 8 ∙ ap (bit_xor (s % 2 ^ 8)) all
+
 -- ---- runs of bytes
 
 pub fcs-append : (s : ℕ) (a b : List ℕ) → fcs s (a ++ b) ≡ fcs (fcs s a) b
